@@ -40,6 +40,9 @@ class AuditCall:
 
 SIGNED = ("signed, and not as it would be audited now. It is audited again only with --again, which takes the "
           "signature away")
+UNKNOWN = "signed, and neither made nor verified here: `ntpaudit-dossier verify` comes first"
+UNCHANGED, BY_ANOTHER = " (unchanged)", " (unchanged, by another build of the program)"
+"""What stands behind the line of a folder that isn't audited again."""
 
 
 def audit_all(folders: list[str], wanted: AuditCall, jobs: int, seconds: int, metrics: str | None) -> int:
@@ -72,8 +75,8 @@ def audit(wanted: AuditCall, path: str, _: int) -> Audited:
         if (name := signed_in(folder)) != files.AUDIT:
             raise fault(f"{name} is there, so nothing is written beside it", USAGE)
         old = known_record(folder, wanted.known)
-        if old and not wanted.again and is_same(folder, old, wanted):
-            return result_of(path, old, wanted.known, " (unchanged)")
+        if old and not wanted.again and (words := unchanged(folder, old, wanted)):
+            return result_of(path, old, wanted.known, words)
         return audited_anew(wanted, path, old)
 
 
@@ -82,7 +85,7 @@ def audited_anew(wanted: AuditCall, path: str, old: Record | None) -> Audited:
     is_signed, _ = before = standing(path)
     with Folder(path) as folder:
         if is_signed and not wanted.again:
-            raise fault(SIGNED, USAGE)
+            raise fault(why_not_again(folder, old), USAGE)
         for day in folders_of_days(folder, wanted.options):
             if folder.has(f"{day}/{files.AUDIT}"):
                 raise fault(f"{day} has an audit of its own, which --days would overwrite")
@@ -169,10 +172,27 @@ def known_record(folder: Folder, known: Known) -> Record | None:
         return None
 
 
+def why_not_again(folder: Folder, old: Record | None) -> str:
+    """Why a signed folder isn't audited again: its audit isn't known here, or would be another."""
+    with suppress(Fault):
+        read_record(folder.data(files.AUDIT))
+        return SIGNED if old else UNKNOWN
+    return SIGNED
+
+
+def unchanged(folder: Folder, old: Record, wanted: AuditCall) -> str:
+    """How it is said that a folder is as it was audited; nothing if it isn't. One that is signed may have been audited
+    by another build of the program: its signature would be lost."""
+    is_own = old.program == wanted.program.made
+    if not (is_own or folder.has(files.SIGNATURE)) or not is_same(folder, old, wanted):
+        return ""
+    return UNCHANGED if is_own else BY_ANOTHER
+
+
 def is_same(folder: Folder, old: Record, wanted: AuditCall) -> bool:
-    """Whether a folder would be audited as it was, and all its files are there as they were left. What was refused is
-    tried again."""
-    if old.refusal or (old.program, old.options) != (wanted.program.made, wanted.options):
+    """Whether a folder would be audited as it was, by whichever program, and all its files are there as they were left.
+    What was refused is tried again."""
+    if old.refusal or old.options != wanted.options:
         return False
     if record_by(wanted.leaps, old).entries != old.entries:
         return False

@@ -20,7 +20,7 @@ from ..fault import USAGE, Fault, fault
 from ..folder.claim import Claim
 from ..folder.entry import FEW, Refusal
 from ..folder.evidence import evidence_files
-from ..folder.files import CLAIM, Folder
+from ..folder.files import AUDIT, CLAIM, SIGNATURE, Folder
 from ..folder.jobs import answer, run_all
 from ..folder.placing import ROOM, blocks_of, copy_of, make_in, place
 from ..folder.result import Days, Said
@@ -36,6 +36,8 @@ QUIET = HOUR = 3600
 """Seconds without a packet after which the last file of a recorder counts as finished; and in an hour."""
 LOOKED_AT = "recording"
 """A private copy."""
+AUDITED_AGAIN = 7
+"""The newest days before today, which ntpaudit-daily audits each night: those whose files have changed once more."""
 
 
 class Recorded(NamedTuple):
@@ -163,7 +165,8 @@ def day_named(date: str) -> int:
 
 def make_day(source: str, target: str, path: str, shown: set[str]) -> Said:
     """Puts into a day's folder what it hasn't: what was recorded on the day by its name, and what shows times of it. A
-    file that can't be read is named, and the others are put there."""
+    file that can't be read is named, and the others are put there. Nothing is put into a folder that is signed, nor
+    into one that has an audit and is older than the days that are audited again; what it would get is named."""
     begin = day_named(os.path.basename(path)) * DAY
     with Folder(source) as recorder, Folder(target) as days:
         claim = replace(read_typed(CLAIM, Claim, days.data(CLAIM)), from_=civil(begin), to=civil(begin + DAY))
@@ -176,10 +179,12 @@ def make_day(source: str, target: str, path: str, shown: set[str]) -> Said:
         with Folder(path) as day:
             wanted = [(days, name) for name in evidence_files(days, days.names())]
             wanted += [(recorder, one.name) for one in recorded if not one.grows]
+            wanted = [(of, name) for of, name in wanted if not (day.has(name) or day.has(f"{name}.zst"))]
+            lacking = [name for _, name in wanted] + [CLAIM] * (not day.has(CLAIM))
+            if lacking and (why := why_finished(day, begin)):
+                return Said(status, [*notes, f"{path}: {why}, so nothing is put into it: {few_of(lacking)}"])
             made: dict[str, Iterable[bytes]] = {}
             for of, name in wanted:
-                if day.has(name) or day.has(f"{name}.zst"):
-                    continue
                 try:
                     copy_of(of, name, str(len(made)))
                 except Fault as wrong:
@@ -193,3 +198,16 @@ def make_day(source: str, target: str, path: str, shown: set[str]) -> Said:
             if made:
                 place(day, made)
     return Said(status, notes)
+
+
+def why_finished(day: Folder, begin: int) -> str:
+    """Why nothing more is put into the folder of a day that began at a Unix second; nothing if something may be."""
+    if day.has(SIGNATURE):
+        return "signed"
+    is_old = begin // DAY < int(time.time()) // DAY - AUDITED_AGAIN
+    return "audited, and not of the last week" if is_old and day.has(AUDIT) else ""
+
+
+def few_of(names: list[str]) -> str:
+    """The first of some names, and how many more there are."""
+    return ", ".join(names[:FEW]) + (f" and {len(names) - FEW} more" if len(names) > FEW else "")

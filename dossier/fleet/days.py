@@ -79,14 +79,14 @@ def is_day(name: str) -> bool:
 
 def machines_of(folders: list[str], others: Collection[str] = ()) -> dict[str, list[str]]:
     """The machines whose days, or folders of days, are named, each with the names of days; none if all are meant. A
-    day's folder is called after it, or is one of these others."""
-    machines: dict[str, list[str]] = {}
+    day's folder is called after it, or is one of these others. A machine that is spelled in several ways is one, as it
+    is spelled first."""
+    machines, first = dict[str, list[str]](), dict[str, str]()
     for folder in folders:
         above, name = os.path.split(folder)
-        if is_day(name) or folder in others:
-            machines.setdefault(with_name(above), []).append(name)
-        else:
-            machines.setdefault(with_name(folder), [])
+        is_of_day = is_day(name) or folder in others
+        path = with_name(above if is_of_day else folder)
+        machines.setdefault(first.setdefault(absolute(path), path), []).extend([name] * is_of_day)
     return machines
 
 

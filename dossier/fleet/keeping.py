@@ -16,6 +16,7 @@ from ..folder import files
 from ..folder.entry import DISPUTED, Record, Refusal, is_made_anew, is_packable
 from ..folder.files import Folder
 from ..folder.jobs import find_tool, run_all, stream
+from ..folder.older import form_of, is_older
 from ..folder.placing import Copy, blocks_of, copy_of, is_ones_own, make_last, place, remove_folder, take_away
 from ..folder.registry import Known
 from ..folder.result import Said
@@ -23,7 +24,7 @@ from ..text import label, note, plain
 from ..units import DAY
 from ..verdict.making import packed_in, sizes_of
 from .audit import change_of
-from .verify import known_in
+from .verify import audit_json, known_in
 
 YEAR = 365.25 * DAY
 TENTH, JUMP = 10, 31 * DAY
@@ -86,9 +87,13 @@ def over_of(lasts: dict[str, int], years: int, force: bool, known: Known) -> tup
 
 
 def keep(path: str, is_over: bool, known: Known) -> Said:
-    """What was done with a folder whose audit was made or verified here. What is disputed is left as it is."""
+    """What was done with a folder whose audit was made or verified here. What is disputed is left as it is, and so is
+    an audit by an older version, of which `audit` makes one anew."""
     with Folder(path) as folder, known.alone(folder):
         is_ones_own(folder.place)
+        if is_older(data := audit_json(folder)):
+            return Said(lines=[f"audited in form {form_of(data)}, by an older version, and left as it is: "
+                               "ntpaudit-dossier audit makes it anew"])
         record, seen = known_in(folder, known)
         if not seen:
             raise fault("neither made nor verified here: `ntpaudit-dossier verify` comes first", USAGE)

@@ -9,7 +9,7 @@ from datetime import date
 from functools import cache
 from typing import NamedTuple
 
-from ..fault import fault
+from ..fault import Fault, fault
 from ..text import count, plain
 from ..units import DAY, LAST_SECOND, SECOND
 
@@ -23,6 +23,18 @@ READING = re.compile(r"(?:(\d{4}-\d\d-\d\d)T(\d\d):(\d\d):(\d\d)|(\d{1,10}))(?:\
 """A time in UTC or in Unix seconds, as `ntpaudit at --times` takes it."""
 SHOWN = 60
 """Characters of a log that are told in a fault."""
+UTF_16 = b"\xff\xfe", b"\xfe\xff"
+"""How a text in UTF-16 begins."""
+SEPARATOR = re.compile('"?sep=.?"?', re.ASCII | re.IGNORECASE)
+"""A line by which a spreadsheet is told what stands between columns."""
+BETWEEN = {";": "semicolons", "\t": "tabs"}
+"""What some programs write between columns."""
+LONG, UNCLOSED, RETURN = "field larger", "unexpected end", "new-line"
+NO_CSV = {LONG: f"has a field of more than {csv.field_size_limit():,} characters: is a quote closed in it?",
+          UNCLOSED: "has a quote that isn't closed: close it, or write two for one in a field",
+          RETURN: "has a carriage return that ends no line: save it with line feeds",
+          "": "has more behind a field's closing quote: put a comma there, or write two quotes for one in a field"}
+"""What is wrong with a row, by how Python's words of it begin."""
 
 
 class Reading(NamedTuple):
@@ -111,7 +123,7 @@ def rows_of(text: str) -> Iterator[tuple[int, str, list[str]]]:
         try:
             fields = next(reader, None)
         except csv.Error as error:
-            raise fault(f"line {number} of the log is no CSV ({error})") from None
+            raise no_csv(str(error), number, number + len(taken) - 1) from None
         if fields is None:
             return
         yield number, "".join(taken), fields
@@ -119,12 +131,32 @@ def rows_of(text: str) -> Iterator[tuple[int, str, list[str]]]:
         taken.clear()
 
 
+def no_csv(said: str, first: int, last: int) -> Fault:
+    """The fault of a row that is no CSV, by Python's words, and by its first line and the one at which that was seen:
+    a field that is too long, or doesn't end, may have swallowed many lines."""
+    begin = next(filter(said.startswith, NO_CSV))
+    return fault(f"line {first if begin in (LONG, UNCLOSED) else last} of the log {NO_CSV[begin]}")
+
+
+def check_head(line: str, wanted: set[str]) -> None:
+    """Refuses a first line as some programs write it: one that names no columns, or has something else than commas
+    between those that are wanted."""
+    if SEPARATOR.fullmatch(line):
+        raise fault(f"line 1 of the log is `{plain(line)}`: save it with commas, and without that line")
+    names = {sign: {name.strip('"') for name in line.split(sign)} for sign in (",", *BETWEEN)}
+    if wanted <= names[","]:
+        return
+    for sign, words in BETWEEN.items():
+        if len(names[sign]) > 1 and (names[sign] & wanted or len(names[","]) == 1):
+            raise fault(f"line 1 of the log has {words} between its columns: save it with commas")
+
+
 def parted(number: int, row: str) -> tuple[str, str]:
     """A row and its line end."""
     end = "\r\n" if row.endswith("\r\n") else "\n" if row.endswith("\n") else ""
     row = row[:len(row) - len(end)]
     if row.endswith("\r"):
-        raise fault(f"line {number} of the log ends with a carriage return alone")
+        raise fault(f"line {number} of the log ends with a carriage return alone: save it with line feeds")
     return row, end
 
 
@@ -151,8 +183,12 @@ def event_of(number: int, row: str, fields: list[str], head: list[str], columns:
 
 def read_log(data: bytes, machine: str, time: str) -> Log:
     """The events of a log, by the columns that have the machine and what its clock showed."""
+    if data.startswith(UTF_16):
+        raise fault("line 1 of the log begins as UTF-16: save it as UTF-8")
     text = data.decode("utf-8", "surrogateescape")
     mark = MARK if text.startswith(MARK) else ""
+    first = next(io.BytesIO(data), b"").decode("utf-8", "surrogateescape")
+    check_head(first.removeprefix(MARK).rstrip("\r\n"), {machine, time})
     rows = rows_of(text.removeprefix(MARK))
     number, row, names = next(rows, (1, "", list[str]()))
     if not names:

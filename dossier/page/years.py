@@ -2,17 +2,19 @@
 statements to sign, and kept so that these can be signed."""
 import os
 from collections.abc import Iterator, Sequence
+from contextlib import suppress
 from itertools import groupby
 from typing import NamedTuple
 
-from ..fault import fault
+from ..fault import Fault, fault
 from ..fleet.days import (Twins, YearCall, days_among, in_a_line, is_day, machines_of, namesakes, packed, unpacked,
                           year_of)
+from ..fleet.planning import folders_in, others_in
 from ..fleet.statements import DAYS, PAGE, lines_of, stated_of, statement
 from ..folder.entry import YES, Refusal
 from ..folder.files import YEAR
-from ..folder.jobs import run_all
-from ..folder.result import Told, Year
+from ..folder.jobs import run_all, run_one
+from ..folder.result import MISSING, Told, Year
 from ..folder.year import Stated, Statements
 from ..schema import json_text
 from ..text import note
@@ -96,7 +98,7 @@ def row_of(link: str, year: Year) -> MachineRow:
 def write_year(folders: list[str], wanted: YearCall, pages: Pages, seconds: int, jobs: int) -> int:
     """Writes the year. The status is that of the worst machine that couldn't be looked at; 0 if all could."""
     others = days_among([folder for folder in folders if not is_day(os.path.basename(folder))], seconds, is_alone=True)
-    names, worst, packs = machines_of(folders, others), 0, list[bytes]()
+    names, worst, packs, empty = machines_of(folders, others), 0, list[bytes](), list[str]()
     split, twins = Split(pages.split, folders, YEAR) if pages.split else None, Twins()
     wanted = wanted._replace(machines=len(names), namesakes=namesakes(names))
     templates()
@@ -112,8 +114,11 @@ def write_year(folders: list[str], wanted: YearCall, pages: Pages, seconds: int,
             continue
         twins.add(result)
         packs.append(packed(result))
+        empty += [machine] * all(day.verdict == MISSING for day in result.days)
     if not packs:
         raise fault("none of these folders has a year")
+    for machine in of_machines(empty, wanted.year, seconds) if empty else ():
+        note(f"{machine}: no day of {wanted.year} is in it, but in folders in it: name those ({machine}/*)")
     years = (twins.of(number, unpacked(data)) for number, data in enumerate(packs))
     if not split:
         articles = list(enumerate(years, 1))
@@ -131,3 +136,20 @@ def write_year(folders: list[str], wanted: YearCall, pages: Pages, seconds: int,
     split.put(json_text(Statements(wanted.year, civil(wanted.at), "", stated, left)), YEAR)
     split.end()
     return worst
+
+
+def of_machines(folders: list[str], year: int, seconds: int) -> list[str]:
+    """The folders in which no folder is called after a day of a year, though some are in folders in these: each is that
+    of several machines."""
+    def work(*_: object) -> list[str]:
+        return [path for path in folders
+                if not has_days_of(path, year) and any(has_days_of(other, year) for other in others_in(path))]
+    result = run_one("", work, list[str], seconds)
+    return [] if isinstance(result, Refusal) else result
+
+
+def has_days_of(path: str, year: int) -> bool:
+    """Whether folders in one are called after days of a year."""
+    with suppress(Fault):
+        return any(os.path.basename(day).startswith(f"{year}-") for day in folders_in(path, are_days=True))
+    return False

@@ -337,6 +337,7 @@ def test_day(place: Path) -> None:
     check("day again", run=(dossier(*words), (0, f"{made}\n".encode(), b"")), same=(kept_in(made) == before, True))
     (made / names[9]).rename(made / f"{names[9]}.zst")
     (made / names[10]).unlink()
+    (made / "audit.json").unlink()
     (made / "claim.json").write_text("mine")
     dossier(*words)
     after = kept_in(made)
@@ -353,6 +354,43 @@ def test_day(place: Path) -> None:
                        (0, "".join(f"{path}\n" for path in paths).encode())),
           evidence=([{"evidence.json", "sheet.pdf"} <= set(kept_in(path)) for path in paths], [True] * 2),
           audited=(dossier("audit", *paths)[0], 0))
+
+
+def test_day_finished(place: Path) -> None:
+    """Nothing is put into a day's folder that is signed, or has an audit and is older than what is audited again."""
+    today = int(time.time()) // DAY * DAY
+    recorder, days, names = recorded(place, range(-9 * 24, 0, 6), today)
+    words = "day", "--from", recorder, "--to", days
+    made = {number: days / time.strftime("%Y-%m-%d", time.gmtime(today - DAY * number)) for number in (8, 7, 6, 5)}
+    dossier(*words)
+    dossier("audit", made[8], made[7], made[6])
+    is_signed = is_here("ssh-keygen", "days that are signed")
+    if is_signed:
+        dossier("sign", "--key", key_of(place, "key")[0], made[6])
+    for path in made.values():
+        for name in (name for name in names if path.name in name):
+            (path / name).unlink()
+    (made[8] / "claim.json").unlink()
+    (days / "evidence.json").write_text(json.dumps({"drift": "sheet.pdf"}))
+    (days / "sheet.pdf").write_text("a sheet")
+    before = {number: kept_in(path) for number, path in made.items()}
+    own = {number: sorted(name for name in names if path.name in name) for number, path in made.items()}
+    for how in "once", "again":
+        status, out, err = dossier(*words)
+        told = [line for line in err.decode().splitlines() if "nothing is put into it" in line]
+        lacking = {number: ", ".join(["evidence.json", "sheet.pdf", *own[number]]) for number in (8, 6)}
+        check(f"days that are finished, {how}", status=(status, 0), told=(told, [
+            f"{made[8]}: audited, and not of the last week, so nothing is put into it: {lacking[8]}, claim.json",
+            *[f"{made[6]}: signed, so nothing is put into it: {lacking[6]}"] * is_signed]),
+            listed=({str(path) for path in made.values()} <= set(out.decode().split()), True),
+            same=([kept_in(made[number]) == before[number] for number in (8, 6)], [True, is_signed]),
+            came=([{"evidence.json", "sheet.pdf", *own[number]} <= set(kept_in(made[number])) for number in (7, 5)],
+                  [True] * 2))
+    if is_signed:
+        hours_of(recorder, range(-6 * 24, -5 * 24), today)
+        status, _, err = dossier(*words, "--date", made[6].name)
+        check("a day that is finished and lacks much", status=(status, 0), told=(
+            (f"{made[6]}: signed, " in err.decode(), err.decode().endswith(" and 18 more\n")), (True, True)))
 
 
 def test_day_of_others(place: Path) -> None:
@@ -587,6 +625,21 @@ def test_keep_refused(place: Path) -> None:
     dossier("audit", stranger, env={**ENVIRONMENT, "XDG_STATE_HOME": str(place / "none")})
     check("what isn't known isn't kept", run=(dossier("keep", stranger)[0], 5),
           files=("f.pcap" in listed(stranger), True))
+
+
+def test_keep_older(place: Path) -> None:
+    """What an older version audited is left as it is, which is no failure, and is told."""
+    older, own = place / "older", audited(place, "own")
+    shutil.copytree(DATA / "older/1.0.0/yes", older)
+    before, form = kept_in(older), json.loads((older / "audit.json").read_text())["dossier"]
+    dossier("verify", older)
+    said = f"audited in form {form}, by an older version, and left as it is: ntpaudit-dossier audit makes it anew"
+    for words in (), ("--force", "--years", "1"):
+        ran = dossier("keep", *words, older)
+        check(f"keep {words} of an older form", run=(ran, (0, f"{older}: {said}\n".encode(), b"")),
+              same=(kept_in(older), before))
+    (own / "audit.json").unlink()
+    check("keep of no audit", run=(dossier("keep", own)[0], 4))
 
 
 def test_years(place: Path) -> None:

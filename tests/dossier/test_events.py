@@ -74,9 +74,22 @@ def refused() -> Iterator[tuple[str, str | bytes, str]]:
     yield "a blank line", f"{head}{row}\n{row}", "line 3 of the log is blank"
     yield "a blank line at the end", f"{head}{row}\r\n", "line 3 of the log is blank"
     yield "a field too many", f"{head}{row}web-1,{NOON},5Z\n", "line 3 of the log has 3 fields, and the first line 2"
-    yield "a quote that isn't closed", f'{head}"{row}', "line 2 of the log is no CSV"
-    yield "a carriage return in a row", f"{head}web\r1,1\n", "line 2 of the log is no CSV"
-    yield "a carriage return alone at the end", f"{head}{row}web-1,1\r", "line 3 of the log ends with a carriage return"
+    yield "a quote that isn't closed", f'{head}"{row}{row}', "line 2 of the log has a quote that isn't closed: close"
+    yield "a quote in a field", f'{head}{row}"a "b"",1\n', "line 3 of the log has more behind a field's closing"
+    returns = "a carriage return that ends no line: save it with line feeds"
+    yield "a carriage return in a row", f"{head}web\r1,1\n", f"line 2 of the log has {returns}"
+    yield "one behind a field of two lines", f'{head}"a\nb",1\r1\n', f"line 3 of the log has {returns}"
+    yield "lines that end with one", f"{head}{row}".replace("\n", "\r"), f"line 1 of the log has {returns}"
+    yield "one alone at the end", f"{head}{row}web-1,1\r", "line 3 of the log ends with a carriage return alone: save"
+    yield "a long field", f"{head}{row}{'x' * 131_073},1\n", "line 3 of the log has a field of more than 131,072"
+    for sign, first in ((";", "machine;time"), (";", '"time";"machine";"a, b"'), (";", "\ufeffMachine;Time"),
+                        ("\t", "a\tmachine"), ("\t", "Machine\tTime\r")):
+        words = f"{'tabs' if sign == chr(9) else 'semicolons'} between its columns: save it with commas"
+        yield f"columns {first!r}", f"{first}\n", f"line 1 of the log has {words}"
+    for first in "sep=,", "sep=;\r", '"sep=,"', "SEP=\t":
+        yield f"{first} as its first line", f"{first}\n{head}{row}", "save it with commas, and without that line"
+    for code in "utf-16-le", "utf-16-be":
+        yield code, f"\ufeff{head}{row}".encode(code), "line 1 of the log begins as UTF-16: save it as UTF-8"
     yield "a long row behind one of two lines", f'{head}"a\nb",1\nweb-1,x\n', "line 4 of the log: x is no reading"
     yield "no bytes", "", "first line names no columns"
     yield "no column of times", "machine,when\n", "no column time: --time names another one"

@@ -6,8 +6,8 @@ import shutil
 from pathlib import Path
 from typing import Any
 
-from tests.support import check, is_here
-from tests.dossier.audits import ENVIRONMENT, called, dossier, record_of, rows, with_change
+from tests.support import DATA, check, is_here
+from tests.dossier.audits import ENVIRONMENT, PROGRAM, called, dossier, record_of, rows, with_change
 from tests.dossier.test_events import NOON, log_of
 from tests.dossier.test_evidence import key_of
 from tests.dossier.test_fleets import days_of, machine
@@ -199,6 +199,78 @@ def test_spellings(place: Path) -> None:
     check("paths that differ", words=(len({in_quotes(in_words(path)) for path in paths}), len(paths)), may_be=([
         may_be(in_words(one), f"/x/{other}", "/x") for one in paths for other in paths if one != other],
         [False] * len(paths) * (len(paths) - 1)))
+
+
+def test_one_machine(place: Path) -> None:
+    """A machine that is named by several paths is one, as it is spelled first, and its year verifies."""
+    if not is_here("ssh-keygen", "a year that is signed"):
+        return
+    own = machine(place / "fleet", "web-1")
+    dossier("audit", *days_of(own))
+    path = os.path.relpath(own, place)
+    for words in rows((own, path), (path, own), (f"{path}/2001-09-09", own / "2001-09-10"),
+                      (own / "2001-09-09", f"{path}/2001-09-10")):
+        shutil.rmtree(place / "pages", ignore_errors=True)
+        signed_year(place, *words, cwd=place)
+        status, text = as_signed(place)
+        first = str(words[0]).removesuffix("/2001-09-09")
+        check(f"one machine as {words}", pages=(
+            sorted(file.name for file in (place / "pages").glob("*.days")), [f"{called(Path(first))}.days"]),
+            status=(status, 0), last=("web-1 2001-09-10 refuted" in last_of(text), True))
+
+
+def test_fleet_as_machine(place: Path) -> None:
+    """It is told if a folder of machines is named as if it were one; not so of a machine that has no day."""
+    fleet, empty = place / "fleet", place / "empty"
+    own = machine(fleet, "web-1")
+    dossier("audit", *days_of(own))
+    empty.mkdir()
+    line = "{}: no day of {} is in it, but in folders in it: name those ({}/*)\n"
+    for named, year, told in rows(([fleet], 2001, [fleet]), ([fleet], 2002, []), ([own], 2001, []), ([own], 2002, []),
+                                  ([empty, own, fleet, place], 2001, [fleet])):
+        status, _, err = dossier("year", "--year", str(year), "--split", place / "pages", *named)
+        check(f"the year {year} of {named}", run=((status, err.decode()), (0, "".join(
+            line.format(path, year, path) for path in told))))
+        shutil.rmtree(place / "pages")
+
+
+def test_signed_days(place: Path) -> None:
+    """A signed day is audited no more: it is told if nobody here knows it, and if another build of the program made
+    it, it is as it was."""
+    if not is_here("ssh-keygen", "days that are signed"):
+        return
+    own, theirs = machine(place / "fleet", "web-1"), {**ENVIRONMENT, "XDG_STATE_HOME": str(place / "theirs")}
+    days = days_of(own)
+    dossier("audit", *days, env=theirs)
+    dossier("sign", "--key", key_of(place, "key")[0], *days, env=theirs)
+    before = [(path / "audit.json.sig").read_bytes() for path in days]
+    build = place / "ntpaudit"
+    shutil.copy(PROGRAM, build)
+    with open(build, "ab") as opened:
+        opened.write(b"\0")
+    here = {**ENVIRONMENT, "XDG_STATE_HOME": str(place / "here")}
+    status, out, _ = dossier("audit", *days, env=here)
+    words = "ntpaudit-dossier: signed, and neither made nor verified here: ntpaudit-dossier verify comes first"
+    check("signed days that nobody here knows", status=(status, 5), told=(out.decode().count(words), 2))
+    dossier("verify", *days, env=here)
+    for env, said in rows((here, "(unchanged)"), ({**here, "NTPAUDIT": str(build)},
+                                                  "(unchanged, by another build of the program)")):
+        for path, wanted in zip(days, (0, 1)):
+            status, out, _ = dossier("audit", path, env=env)
+            check(f"a signed day that is verified {said}", status=(status, wanted), told=(
+                out.decode().endswith(f" {said}\n"), True))
+    (days[0] / "evidence.json").write_text("{}")
+    for env in here, {**here, "NTPAUDIT": str(build)}:
+        status, out, _ = dossier("audit", days[0], env=env)
+        check("a signed day that was changed", status=(status, 5), told=(
+            b"signed, and not as it would be audited now" in out, True))
+    check("their signatures", same=([(path / "audit.json.sig").read_bytes() for path in days], before))
+    shutil.copytree(DATA / "older/1.0.0/yes", older := place / "older")
+    (older / "audit.json.sig").write_text("a signature")
+    check("a signed day of an older form", told=(b"signed, and not as it would be" in dossier("audit", older)[1], True))
+    (days[1] / "audit.json.sig").unlink()
+    out = dossier("audit", days[1], env={**here, "NTPAUDIT": str(build)})[1]
+    check("an unsigned day by another build", told=(b"unchanged" in out, False))
 
 
 def test_principals(place: Path) -> None:
