@@ -400,7 +400,8 @@ def test_answers(place: Path) -> None:
              for line in log.read_text().splitlines()]
     check("days by their answers", status=(status, 1),
           lines=([line.partition(": ")[2] for line in out.decode().splitlines()],
-                 ["judged: yes", "judged: yes", "judged: refuted", "judged: no evidence", ""]),
+                 [*(words for verdict in ("yes", "yes", "refuted", "no evidence") for words in (
+                     f"judged: {verdict}", "(by another build of the program than the audit's)")), ""]),
           told=("bounds, reasons, and warnings that take no yes away are as audit.json has them" in out.decode(), True),
           calls=(calls[1:], [*["samples", "check --sums", "refute --drift"] * 2, "samples", "samples",
                              "refute --drift", "refute --drift", "samples", "settle"]))
