@@ -1,3 +1,4 @@
 mod Common
 pub mod TrueTime
 pub mod Before
+pub mod PutIntoPlace

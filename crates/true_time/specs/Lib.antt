@@ -1,5 +1,6 @@
 pub mod Common
 pub mod TrueTime
+pub mod FoundHulls
 pub mod ReadingLine
 pub mod TrueText
 pub mod When

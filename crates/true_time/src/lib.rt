@@ -2,19 +2,21 @@
 //! its error.
 //!
 //! [`readings_text`] gives the text for many readings: the samples are laid out in tables once, and
-//! a hull is a search in them. [`laws`] say that true time lies between the two. For one reading
+//! a hull is a search in them. The hulls are found in the order of the readings' ticks, and written
+//! in the readings' own. [`laws`] say that true time lies between the two. For one reading
 //! [`parts_at`] gives what each server says, and [`add_true_time`] adds the two to a text.
 //!
 //! The line of a reading, as `add_readings` of `true_time/src/reading_line.rt` makes it, with its
 //! proof:
 //!
 //! ```text
-//! let hull = hull_over(tables, &mut places, claim, reading.begin, reading.end);
+//! let hull = hull_at(hulls, number, tables, &mut places, claim, reading);
 //! add_reading(text, style, reading, hull)?;
 //! ```
 
 #![tactic(auto)]
 
+mod found_hulls;
 mod hull;
 pub mod laws;
 mod order;

@@ -5,10 +5,12 @@ ghost use Rattle.line_writer.specs.declared.line.TheConstants.{CAPACITY};
 ghost use Rattle.line_writer.specs.Field.{room_of};
 ghost use Rattle.audit_text.specs.Table.{rows_from};
 ghost use Rattle.true_time.specs.Common.{AreSamplesOf, IsLawfulReading, IsTabled, OfTables, data_of, field_data, line_of, reading_data};
+ghost use Rattle.true_time.specs.FoundHulls.{AreHullsOf};
 ghost use Rattle.true_time.specs.ReadingLine as spec;
 ghost use Rattle.true_time.specs.ReadingLine.{reading_line};
 
-use crate::hull::{hull_over, tables_for};
+use crate::found_hulls::{hull_at, hulls_of};
+use crate::hull::tables_for;
 use audit_text::{hull_low, is_plain};
 use claim_file::Claim;
 use intersection::kinds::Hull;
@@ -196,15 +198,18 @@ fn add_reading(
     add_times(text, row_style(style), reading, hull)
 }
 
-/// Adds the lines of readings, in their order.
+/// Adds the lines of readings, in their order, with those of their hulls that were found.
 fn add_readings(
     text: &mut Vec<u8>,
     style: Style,
     tables: &[BestTable],
     claim: &Claim,
+    hulls: &[Option<Hull>],
     readings: &[Reading],
 ) -> Result<(), AllocError>
     requires tables { IsTabled (data_of claim.now) tables.now }
+    requires hulls { OfTables (data_of claim.now) tables.now (λ samples.
+        AreHullsOf samples (data_of claim.now) readings.now hulls.now) }
     requires readings { All (λ r. IsLawfulReading (reading_data r)) readings.now }
     ensures { IfOk result (λ _. OfTables (data_of claim.now) tables.now (λ samples.
         text.new.items ≡ text.old.items ++ rows_from (spec.reading_row style samples
@@ -212,7 +217,7 @@ fn add_readings(
 {
     let mut places = Places::default();
     for (number, reading) in readings.iter().enumerate() {
-        let hull = hull_over(tables, &mut places, claim, reading.begin, reading.end);
+        let hull = hull_at(hulls, number, tables, &mut places, claim, reading);
         add_reading(text, style, reading, hull)?;
     }
     Ok(())
@@ -238,8 +243,16 @@ pub fn readings_text<S: SampleSource>(
         (S.samples samples) (data_of claim.now) (map reading_data readings.now)) }
 {
     let tables = tables_for(alloc, samples, claim)?;
+    let hulls = hulls_of(alloc, tables.as_slice(), claim, readings)?;
     let mut text = Vec::new(alloc);
     add_heading(&mut text, style)?;
-    add_readings(&mut text, style, tables.as_slice(), claim, readings)?;
+    add_readings(
+        &mut text,
+        style,
+        tables.as_slice(),
+        claim,
+        hulls.as_slice(),
+        readings,
+    )?;
     Ok(text)
 }

@@ -1,0 +1,17 @@
+use Rattle.true_time.proofs.Common.{◌≡◌, ◌∙◌, subst, get_or_from_slice_get, data_of, Hull, hull_of, reading_data}
+use Rattle.reading_time.specs.declared.reading.Reading.{Reading}
+use Rattle.true_time.proofs.PutIntoPlace.{put_into_place}
+use Rattle.true_time.proofs.found_hulls.find_hull.Goals as goal
+
+pub returns-then-number-readings : goal.returns-then-number-readings
+returns-then-number-readings c samples tabled =
+    let claim = data_of c.args.claim.now in
+    let readings = c.args.readings.now in
+    let number = c.args.number in
+    let reading = c.index-readings-number.result in
+    let hull = c.hull_over.result in
+    let is_hull = λ (r : Reading) (h : Hull). h ≡ hull_of samples claim (reading_data r) in
+    put_into_place is_hull readings c.args.hulls.now (c.requires.hulls samples tabled) number hull
+    (λ r at. subst (λ (p : Reading). is_hull p hull)
+    (c.index-readings-number.is ∙ get_or_from_slice_get readings number r reading at)
+    (c.hull_over.ensures samples tabled))
