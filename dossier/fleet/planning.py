@@ -86,7 +86,8 @@ def planned(folders: list[str], named: set[str], seconds: int) -> Plan:
         for path in named & folders_above(machine):
             below_of.setdefault(path, []).append(machine)
     rests, years = set(map(files.absolute, resting)), [year for year, _ in spans if year]
-    bare = those_among([folder for folder in folders if folder not in with_days] * bool(with_days), is_bare, seconds)
+    apart = [folder for folder in folders if folder not in with_days] * bool(with_days)
+    bare = those_among(apart, is_bare, seconds, or_unknown=False)
     holds = {folder: holding(files.absolute(folder), below_of, above, folder in bare) for folder in folders}
     for folder in bare if years else ():  # (days may have been left out of a year)
         below_of.setdefault(files.absolute(folder), [])
@@ -166,8 +167,9 @@ def rests_on_days(folder: Folder) -> bool:
     return folder.has(files.YEAR) or folder.has(files.EVENTS)
 
 
-def those_among(paths: list[str], is_one: Callable[[Folder], bool], seconds: int) -> set[str]:
-    """The folders of which something is so, many at a process; and all of those that took too long together."""
+def those_among(paths: list[str], is_one: Callable[[Folder], bool], seconds: int, or_unknown: bool = True) -> set[str]:
+    """The folders of which something is so, many at a process; and all of those of which that can't be found together,
+    unless they don't count."""
     chunks = [paths[at:at + AT_ONCE] for at in range(0, len(paths), AT_ONCE)]
 
     def work(_: str, number: int) -> list[str]:
@@ -177,7 +179,8 @@ def those_among(paths: list[str], is_one: Callable[[Folder], bool], seconds: int
                 found += [path] * is_one(folder)
         return found
     results = [came for _, came in run_all([chunk[0] for chunk in chunks], work, list[str], seconds)]
-    return {path for chunk, came in zip(chunks, results) for path in (chunk if isinstance(came, Refusal) else came)}
+    return {path for chunk, came in zip(chunks, results)
+            for path in (chunk * or_unknown if isinstance(came, Refusal) else came)}
 
 
 def beside_years(plan: Plan, named: set[str]) -> set[str]:

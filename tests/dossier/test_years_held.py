@@ -14,7 +14,7 @@ from tests.dossier.test_evidence import key_of
 from tests.dossier.test_years import RIGHT, day
 
 from dossier import units
-from dossier.fleet import days, statements
+from dossier.fleet import days, planning, statements
 from dossier.folder.files import Folder
 from dossier.folder.registry import Known
 from dossier.folder.table import Table
@@ -374,6 +374,14 @@ def test_days_too_many(place: Path) -> None:
     out = run([sys.executable, "-c", BRIEF, *map(str, [*asked[:4], single, place / "many"])], env=ENVIRONMENT)[1]
     check("beside too many machines", lines=([line in out.decode() for line in (
         f"{single}: verified: yes", f"{place / 'many'}: ntpaudit-dossier: its result is too big")], [True, True]))
+
+
+def test_unknown_folders(place: Path) -> None:
+    """Where nobody can find out of which folders something is so, it is so of all, or of none."""
+    def ends(_: Folder) -> bool:
+        raise MemoryError
+    found = [planning.those_among([str(place)], ends, 9, or_unknown) for or_unknown in (True, False)]
+    check("folders that can't be looked at", found=(found, [{str(place)}, set()]))
 
 
 def test_chosen_keys() -> None:
