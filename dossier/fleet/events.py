@@ -27,7 +27,7 @@ from ..units import SECOND, earliest, latest
 from ..verdict.moments import Moments
 from .days import in_words, is_day, is_of_claim, namesakes
 from .signature import Signers, signed_in
-from .statements import folders_above, is_within, misplaced, premises_of, renamed
+from .statements import folders_above, is_within, misplaced, premises_of, programs_named, renamed
 
 INDEX = "index.html"
 NO_MACHINE = "no folder of this machine"
@@ -38,6 +38,7 @@ AS_SIGNED = "{} as signed by {}"
 OWN = EVENTS, SIGNATURES[EVENTS], LIST, LOG, ANSWERED, INDEX
 """The files of an answer's folder."""
 NOT_MADE = "Some days are as {} signed them: nobody made them again where this was put together."
+BY_ANOTHER = "made by another program than the one that is here: by {}; here by {}"
 NO_SIGNERS = "days count in it by their machines' signatures: --signers names who may sign"
 MAX_NOTES = 20
 """Lines that are told of events without a folder."""
@@ -347,20 +348,30 @@ def renamed_in(folder: Folder) -> list[str]:
     return renamed((in_words(machine.named), machine.path) for machine in machines)
 
 
-def difference(folder: Folder, call: EventsCall) -> tuple[str, int]:
-    """The first difference between what stands in a folder and what its log and the folders of machines come to; and
-    of how many events no time is known."""
+class Compared(NamedTuple):
+    """The first difference between what stands in a folder and what its log and the folders of machines come to,
+    nothing if there is none; of how many events no time is known; and that another program made it, if it says so."""
+
+    difference: str
+    untimed: int = 0
+    by_another: str = ""
+
+
+def compared(folder: Folder, call: EventsCall) -> Compared:
+    """What of an answer stands as its log and the folders of machines are."""
     kept = read_events(folder.data(EVENTS))
     data, machines = folder.data(LOG), [machine_at(folder, resting) for resting in kept.machines]
     if sum_of(data) != kept.log:
-        return f"{LOG} isn't the file that {EVENTS} names", 0
+        return Compared(f"{LOG} isn't the file that {EVENTS} names")
     signed = {path_in(machine.path, name) for machine, own in zip(machines, kept.machines) for name in own.by}
     if signed and call.signers.given is None:
-        return NO_SIGNERS, 0
+        return Compared(NO_SIGNERS)
     call = call._replace(asked=kept.asked, signed=frozenset(signed))
     answer = Working(call, read_log(data, kept.asked.machine, kept.asked.time), machines).answer()
     made, files = stated(call, data, answer, kept.made, folder.path)
-    return other_file(folder, files) or other_words(kept, made), sum(not row.time for row in answer.rows)
+    by = tuple(programs_named([program]) for program in (kept.program, made.program))
+    return Compared(other_file(folder, files) or other_words(kept, made), sum(not row.time for row in answer.rows),
+                    BY_ANOTHER.format(*by) if kept.program != made.program else "")
 
 
 def other_file(folder: Folder, files: dict[str, bytes]) -> str:

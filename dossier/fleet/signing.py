@@ -20,7 +20,7 @@ from ..text import label, plain
 from ..units import now
 from ..verdict.making import sizes_of
 from .audit import change_of
-from .events import EventsCall, PageOfEvents, difference as difference_of_events, folders_of, is_of_events
+from .events import EventsCall, PageOfEvents, compared as answer_compared, folders_of, is_of_events
 from .signature import NAMESPACE, NO_KEYGEN, READERS, Signers, signed_in
 from .statements import BY_ANOTHER, compared
 from .verify import known_in
@@ -93,8 +93,9 @@ def difference_of_days(call: SignCall, folder: Folder) -> str:
         found = compared(folder, call.known, call.leaps, call.signers)
         return found.difference or next((note for note in found.notes if note.startswith(BY_ANOTHER)), "")
     folders_of(folder, {"/"})
-    return difference_of_events(folder, EventsCall(Asked(), call.known, call.leaps, find_program(), SECONDS,
-                                                   page=call.page, signers=call.signers))[0]
+    answer = answer_compared(folder, EventsCall(Asked(), call.known, call.leaps, find_program(), SECONDS,
+                                                page=call.page, signers=call.signers))
+    return answer.difference or answer.by_another
 
 
 def sign(call: SignCall, signed: bytes, signature: bytes, path: str, _: int) -> Said:

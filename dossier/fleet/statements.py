@@ -10,7 +10,7 @@ from typing import NamedTuple
 
 from ..fault import Fault, fault
 from ..folder.claim import Claim
-from ..folder.entry import NOT_VERIFIED, YES, LeapList, Made
+from ..folder.entry import BUILD, NOT_VERIFIED, YES, LeapList, Made
 from ..folder.files import AUDIT, LIST, SIGNATURES, YEAR, Folder, absolute, limit_of
 from ..folder.registry import Known
 from ..folder.result import Told, Year
@@ -39,7 +39,7 @@ PAGE, DAYS = ".html", ".days"
 PAGES = f"its pages are those of which {YEAR} has the sums: they weren't made again"
 ANY_PAGES = "its pages weren't looked at: `year --split` makes them again in another folder"
 """Of a year's pages, and of those of one that has no sums of them."""
-PROGRAM = re.compile(r"(ntpaudit [0-9]+(?:\.[0-9]+)*(?: \(logic [0-9a-f]+\))?), SHA-256 ([0-9a-f]{64})")
+PROGRAM = re.compile(f"({BUILD}), SHA-256 ([0-9a-f]{{64}})")
 BY_ANOTHER = "made by another program than the one by which its days are known here"
 UNSEEN_OF = "of {} the signature by which it counts wasn't looked at (--signers FILE does)"
 MAX_LINES, MAX_OF_A_PATH, MAX_OF_A_NOTE = 366, 4_096, 200

@@ -27,8 +27,7 @@ from ..verdict.second import Second
 from ..verdict.sentences import reason
 from .audit import change_of, counted_once
 from .drawing import drawn_of, likelihoods
-from .events import (OWN, EventsCall, PageOfEvents, difference as difference_of_events, folders_of, is_of_events,
-                     renamed_in)
+from .events import OWN, EventsCall, PageOfEvents, compared as answer_compared, folders_of, is_of_events, renamed_in
 from .judging import ONLY_MADE, Judging, Unjudgeable
 from .days import NAMESAKES, namesakes
 from .planning import (Machines, beside_years, is_of_days, is_of_several, machines_below, names_of, once,
@@ -440,9 +439,10 @@ def difference_of_days(verifier: Verifier, folder: Folder, named: set[str], sign
         folders_of(folder, named)
         call = EventsCall(Asked(), verifier.known, verifier.leaps, verifier.program, SECONDS, page=verifier.page,
                           signers=signers, others=machines.every)
-        differs, untimed = difference_of_events(folder, call)
-        return YearCompared(differs, notes=renamed_in(folder) + unanswered_in(folder, OWN),
-                            rest=[f"{count(untimed, 'event')} without a time"] * bool(untimed))
+        found = answer_compared(folder, call)
+        notes = [found.by_another] * bool(found.by_another) + renamed_in(folder) + unanswered_in(folder, OWN)
+        return YearCompared(found.difference, notes=notes,
+                            rest=[f"{count(found.untimed, 'event')} without a time"] * bool(found.untimed))
     days_of(folder, named)
     return year_compared(folder, verifier.known, verifier.leaps, signers, named, machines.folders)
 

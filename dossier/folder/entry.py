@@ -513,11 +513,15 @@ def refusal_by(error: Fault) -> Refusal:
     return Refusal(plain(error.line), error.status, plain(error.why), plain(error.what))
 
 
+BUILD = r"ntpaudit(?: [0-9]{1,9}(?:\.[0-9]{1,9}){0,3}(?: \(logic [0-9a-f]{1,64}\))?)?"
+"""What `ntpaudit --version` prints. It stands in statements that somebody signs, so it is no free text."""
+
+
 @dataclass(frozen=True)
 class Made:
-    """The program by which an audit was made."""
+    """The program by which an audit was made; its version is nothing if it didn't say one."""
 
-    version: Text
+    version: Annotated[str, matching(f"{BUILD}|")]
     sha256: Sum
 
 

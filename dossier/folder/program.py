@@ -1,12 +1,13 @@
 """The program `ntpaudit`: where it is, and how it is called."""
 import os
+import re
 import shutil
 from collections.abc import Callable
 from typing import NamedTuple
 
 from ..fault import MEMORY, MISSING, Fault
 from ..text import plain
-from .entry import Made
+from .entry import BUILD, Made
 from .files import sum_of_file
 from .jobs import ENVIRONMENT, PIPE, begun, private_folder, run, stream
 from .placing import keep
@@ -91,8 +92,8 @@ def find_program() -> Program:
         raise Fault(f"ntpaudit: the program is not there ({where}): set NTPAUDIT to its path", MISSING)
     with private_folder() as place:
         status, version, _ = run([path, "--version"], cwd=place)
-    lines = version.decode("utf-8", "replace").splitlines()
-    return Program(path, Made(lines[0] if lines and not status else "", sum_of_file(path)))
+    said = re.match(f"(?:{BUILD})$", version.decode("utf-8", "replace"), re.MULTILINE)
+    return Program(path, Made(said[0] if said and not status else "", sum_of_file(path)))
 
 
 def path_of_program() -> str | None:

@@ -46,7 +46,7 @@ def test_signatures(place: Path) -> None:
     check("verify without signers", status=(status, 0), seen=(out.count(b"wasn't looked at"), 3),
           verified=(out.count(b": verified"), 4))
     record = (altered / "audit.json").read_text()
-    (altered / "audit.json").write_text(record.replace('"version": "ntpaudit', '"version": "ntpaudi7'))
+    (altered / "audit.json").write_text(record.replace('"version": "ntpaudit ', '"version": "ntpaudit 7'))
     for folder, wanted, is_verified, words in (
             (good, 0, True, f"signed at {at} by alice@example.org, with the key ED25519 SHA256:"),
             (altered, 1, False, "the signature doesn't fit"), (unsigned, 1, True, f"{unsigned}: nobody signed it\n"),

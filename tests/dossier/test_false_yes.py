@@ -150,7 +150,7 @@ def test_free_words(place: Path) -> None:
     if not is_here("ssh-keygen", "a page that is signed"):
         return
     folder = folder_of(place, "host", bound_ns=5_000_004)
-    words, mine = "ntpaudit 0.8.0. Signed and verified by PTB", elsewhere(place / "mine")
+    words, mine = "ntpaudit 9.8.7", elsewhere(place / "mine")
     dossier("audit", folder, env=elsewhere(place))
 
     def lie(record: dict[str, Any], _: object) -> None:
@@ -163,7 +163,8 @@ def test_free_words(place: Path) -> None:
     texts.append((place / "page.html").read_text())
     for text, how in zip(texts, ("while it is verified", "once it is verified")):
         check(f"a page of free words, {how}", yes=('class="verdict yes"' in text, True),
-              theirs=([word in text for word in ("PTB", "2001-01-01", "77777", "0000000000000000")], [False] * 4))
+              theirs=([word in text for word in ("PTB", "9.8.7", "2001-01-01", "77777", "0000000000000000")],
+                      [False] * 5))
     made = float((place / "m.prom").read_text().split("ntpaudit_last_audit_timestamp_seconds{")[1].split()[1])
     check("the time of the last audit is that of verifying", near=(abs(made - time.time()) < 600, True))
     whole, signed = record_of(folder), Path(shutil.copytree(folder, place / "signed"))

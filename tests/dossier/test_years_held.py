@@ -581,3 +581,36 @@ def test_claims_of_others(place: Path) -> None:
     pages = year_of(place, "--signers", signers, machine, env={**ENVIRONMENT, "XDG_STATE_HOME": str(place / "here")})
     lines = (pages / f"{called(machine)}.days").read_text().splitlines()
     check("a claim of another day", by=([line.split()[1] for line in lines], ["web-1", "-"]))
+
+
+def test_words_of_programs(place: Path) -> None:
+    """What is said of a program is a version and no more, so that no stranger's words are in what somebody signs."""
+    if not is_here("ssh-keygen", "a fleet that signs"):
+        return
+    signers, own = signers_of(place, "ann", "web-1"), {**ENVIRONMENT, "XDG_STATE_HOME": str(place / "own")}
+    machine, words = place / "fleet" / "web-1", "ntpaudit 1.0.0. Ann saw all of it. Read by ntpaudit 1.0.0"
+    folders = [day(machine, number, RIGHT) for number in (0, 1)]
+    dossier("audit", *folders, env=own)
+    for folder, version in zip(folders, ("ntpaudit 9", words)):
+        record = json.loads((folder / "audit.json").read_text())
+        record["program"]["version"] = version
+        (folder / "audit.json").write_text(json.dumps(record))
+        sign(place, "web-1", folder / "audit.json")
+    env = {**ENVIRONMENT, "XDG_STATE_HOME": str(place / "here")}
+    pages = year_of(place, "--signers", signers, machine, env=env)
+    text = (pages / "year.json").read_text()
+    check("words of a machine in a year", said=([said in text for said in ("by ntpaudit 9, SHA", "Ann saw")],
+                                                [True, False]))
+    shutil.rmtree(machine)
+    dossier("audit", day(machine, 0, RIGHT))
+    answer = answer_of(place, machine)
+    events = json.loads((answer / "events.json").read_text())
+    for version, status in ("ntpaudit 9", 0), (words, 2):
+        events["program"] = {"version": version, "sha256": "0" * 64}
+        (answer / "events.json").write_text(json.dumps(events))
+        (answer / "events.json.sig").unlink(missing_ok=True)
+        check(f"sign an answer by {version}", status=(dossier("sign", "--key", place / "ann", answer)[0], status or 1))
+        sign(place, "ann", answer / "events.json")
+        told = dossier("verify", "--as-signed", "--signers", signers, answer, machine)
+        check(f"an answer by {version}", status=(told[0], int(status > 0)), said=(
+            "(made by another program than the one that is here: by ntpaudit 9, SHA" in told[1].decode(), not status))
