@@ -18,8 +18,10 @@ from ..text import listed
 from .days import is_day
 from .events import folders_of, is_of_events
 from .signature import signed_in
-from .statements import days_of, folders_above, has_days
+from .statements import DAYS, days_of, folders_above, has_days
 
+OF_ITS_OWN = {*files.SIGNATURES, *files.SIGNATURES.values(), *files.LEFT, files.LIST, files.ANSWERED}
+"""Files of an audit, a year or an answer. (A log may lie among machines before it is answered.)"""
 MAX_DAYS_AT_ONCE, AT_ONCE = 1_000_000, 1_000
 """Days that are verified at once, and those of which a process reads audit.json."""
 
@@ -275,11 +277,11 @@ def may_be_signed(path: str) -> bool:
 
 
 def is_of_days(path: str) -> bool:
-    """Whether a folder holds folders of days, and nothing of an audit, a year or an answer of its own."""
+    """Whether a folder holds folders of days, and nothing of an audit, a year or an answer of its own: where some of
+    that is left, what was signed may have been taken away."""
     with Folder(path) as folder:
         names = folder.names()
-        own = {*files.SIGNATURES, *files.LEFT}
-        return own.isdisjoint(names) and not any(map(files.is_capture, names))
+        return OF_ITS_OWN.isdisjoint(names) and not any(files.is_capture(name) or name.endswith(DAYS) for name in names)
 
 
 def is_bare(folder: Folder) -> bool:

@@ -614,3 +614,27 @@ def test_words_of_programs(place: Path) -> None:
         told = dossier("verify", "--as-signed", "--signers", signers, answer, machine)
         check(f"an answer by {version}", status=(told[0], int(status > 0)), said=(
             "(made by another program than the one that is here: by ntpaudit 9, SHA" in told[1].decode(), not status))
+
+
+def test_taken_away(place: Path) -> None:
+    """A year or an answer from which that is taken away which is signed isn't as it was signed, whatever is left."""
+    if not is_here("ssh-keygen", "a year that is signed"):
+        return
+    signers, machine = signers_of(place, "ann"), place / "fleet" / "web-1"
+    dossier("audit", day(machine, 0, RIGHT))
+    pages, answer = year_of(place, machine), answer_of(place, machine)
+    dossier("sign", "--key", place / "ann", pages, answer)
+    shutil.copy(place / "log.csv", place / "fleet" / "events.csv")
+    asked = ["verify", "--as-signed", "--known", "--signers", signers, pages, answer, place / "fleet"]
+    check("all is there", status=(dossier(*asked)[0], 0))
+    for folder, own, names in ((pages, "year.json", ("year.json.sig", "pages.sums", f"{called(machine)}.days")),
+                               (answer, "events.json", ("events.json.sig", "pages.sums", "answered.csv"))):
+        left = folder.rename(place / "whole")
+        for name in names:
+            folder.mkdir()
+            shutil.copy(left / name, folder)
+            status, out, _ = dossier(*asked)
+            check(f"{name} without {own}", status=(status, 1), last=(
+                f"not as it was signed: {folder};" in out.decode(), True))
+            shutil.rmtree(folder)
+        left.rename(folder)
