@@ -25,7 +25,7 @@ from ..schema import first_difference, read_typed, said
 from ..text import count, label, plain
 from ..units import SECOND, earliest, latest
 from ..verdict.moments import Moments
-from .days import in_words, is_day, is_of_claim, namesakes
+from .days import NAMESAKES as NO_KEY, in_words, is_day, is_of_claim, namesakes
 from .signature import Signers, signed_in
 from .statements import folders_above, is_within, misplaced, premises_of, programs_named, renamed
 
@@ -367,7 +367,11 @@ def compared(folder: Folder, call: EventsCall) -> Compared:
     if signed and call.signers.given is None:
         return Compared(NO_SIGNERS)
     call = call._replace(asked=kept.asked, signed=frozenset(signed))
-    answer = Working(call, read_log(data, kept.asked.machine, kept.asked.time), machines).answer()
+    working = Working(call, read_log(data, kept.asked.machine, kept.asked.time), machines)
+    for machine, own in zip(machines, kept.machines):
+        if own.by and (name := os.path.basename(absolute(machine.path))) in working.alike:
+            return Compared(f"{label(machine.path)}: {NO_KEY.format(label(name))}")
+    answer = working.answer()
     made, files = stated(call, data, answer, kept.made, folder.path)
     by = tuple(programs_named([program]) for program in (kept.program, made.program))
     return Compared(other_file(folder, files) or other_words(kept, made), sum(not row.time for row in answer.rows),

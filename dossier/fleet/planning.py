@@ -229,9 +229,11 @@ def days_beside(path: str, machines: list[str], rests: set[str], seconds: int) -
 
 def machines_below(folders: list[str], seconds: int) -> tuple[frozenset[str], dict[str, Refusal]]:
     """The folders of machines in those that are named, or in a folder in these; and why they can't be found in some.
-    (What is called like a machine and has no days may be of whoever signs.)"""
+    (What is called like a machine and has no days may be of whoever signs; and what is within a folder that has days is
+    no machine, but that one's.)"""
     def work(path: str, _: int) -> list[str]:
-        places = [place for folder in ([path] if path else folders) for place in (folder, *others_in(folder))]
+        above = [folder for folder in ([path] if path else folders) if not has_days(folder)]
+        places = {place for folder in above for place in (folder, *others_in(folder)) if not has_days(place)}
         return sorted({files.absolute(path) for place in places for path in others_in(place) if has_days(path)})
     found, refused = set[str](), dict[str, Refusal]()
     result = run_one("", work, list[str], seconds)

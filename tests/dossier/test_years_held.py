@@ -638,3 +638,27 @@ def test_taken_away(place: Path) -> None:
                 f"not as it was signed: {folder};" in out.decode(), True))
             shutil.rmtree(folder)
         left.rename(folder)
+
+
+def test_namesakes_beside(place: Path) -> None:
+    """A machine that is called like one of a year or an answer makes its key nobody's, whether its own days are looked
+    at or not, and that is said; but what a machine laid into its own folder is no machine."""
+    if not is_here("ssh-keygen", "a fleet that signs"):
+        return
+    signers, fleet = signers_of(place, "ann", "web-1", "web-2"), place / "fleet"
+    folders = [day(fleet / "web-1", 0, RIGHT), day(fleet / "web-2", 0, RIGHT, client="192.0.2.11")]
+    dossier("audit", *folders, env={**ENVIRONMENT, "XDG_STATE_HOME": str(place / "own")})
+    for folder in folders:
+        sign(place, folder.parent.name, folder / "audit.json")
+    among, env = ["--signers", signers], {**ENVIRONMENT, "XDG_STATE_HOME": str(place / "here")}
+    pages, answer = year_of(place, *among, fleet / "web-1", env=env), place / "answer"
+    log = log_of(place, f"machine,time\nweb-1,{NOON}Z\n")
+    dossier("events", *among, "--split", answer, log, fleet / "web-1", env=env)
+    dossier("sign", "--key", place / "ann", *among, pages, answer, env=env)
+    words = "more than one machine is called web-1, so nobody knows whose key that is"
+    for within, status in (("web-2/web-1", 0), ("archive/web-1", 1)):
+        (fleet / within / "2001-09-10").mkdir(parents=True)
+        for folder in [answer]:
+            told = dossier("verify", "--as-signed", "--known", *among, folder, fleet, env=env)
+            line = next(line for line in told[1].decode().splitlines() if line.startswith(f"{folder}: "))
+            check(f"{folder.name} beside {within}", status=(told[0], status), said=(words in line, bool(status)))
