@@ -444,7 +444,7 @@ def difference_of_days(verifier: Verifier, folder: Folder, named: set[str], sign
         return YearCompared(found.difference, notes=notes,
                             rest=[f"{count(found.untimed, 'event')} without a time"] * bool(found.untimed))
     days_of(folder, named)
-    return year_compared(folder, verifier.known, verifier.leaps, signers, named, machines.folders)
+    return year_compared(folder, verifier.known, verifier.leaps, signers, named, machines.every)
 
 
 RESTS = {files.YEAR: ("its statements follow from", "its days"),

@@ -124,7 +124,7 @@ def test_keys_of_two_levels(place: Path) -> None:
 
 
 def test_namesakes_of_two_years(place: Path) -> None:
-    """Of two machines of one name, each of a year of its own, none has a key if both years are verified at once."""
+    """Of two machines of one name, each of a year of its own, none has a key if both are in what is named."""
     if not is_here("ssh-keygen", "a fleet that signs"):
         return
     signers, own = signers_of(place, "web-1", "ann"), {**ENVIRONMENT, "XDG_STATE_HOME": str(place / "own")}
@@ -136,10 +136,11 @@ def test_namesakes_of_two_years(place: Path) -> None:
         years.append(year_of(place, "--signers", signers, folder.parent).rename(place / site))
         sign(place, "ann", years[-1] / "year.json")
     words = "more than one machine is called web-1, so nobody knows whose key that is"
-    for named in years[:1], years[1:], years:
-        status, out, _ = dossier("verify", "--as-signed", "--signers", signers, *named, place / "fleet")
-        check(f"{len(named)} years of machines of one name", status=(status, int(named == years)),
-              said=(out.decode().count(words), 2 * (named == years)))
+    for named, within in (years[:1], "fleet"), (years[1:], "fleet"), (years, "fleet"), (years[:1], "fleet/paris"):
+        status, out, _ = dossier("verify", "--as-signed", "--signers", signers, *named, place / within)
+        number = len(named) if within == "fleet" else 0
+        check(f"{len(named)} years of machines of one name in {within}", status=(status, int(number > 0)),
+              said=(out.decode().count(words), number))
 
 
 def test_machine_within(place: Path) -> None:
@@ -658,7 +659,7 @@ def test_namesakes_beside(place: Path) -> None:
     words = "more than one machine is called web-1, so nobody knows whose key that is"
     for within, status in (("web-2/web-1", 0), ("archive/web-1", 1)):
         (fleet / within / "2001-09-10").mkdir(parents=True)
-        for folder in [answer]:
+        for folder in pages, answer:
             told = dossier("verify", "--as-signed", "--known", *among, folder, fleet, env=env)
             line = next(line for line in told[1].decode().splitlines() if line.startswith(f"{folder}: "))
             check(f"{folder.name} beside {within}", status=(told[0], status), said=(words in line, bool(status)))
