@@ -15,7 +15,7 @@ from ..folder.older import read_any
 from ..folder.result import Below
 from ..folder.year import read_statements
 from ..text import listed
-from .days import is_day
+from .days import is_day, namesakes
 from .events import folders_of, is_of_events
 from .signature import signed_in
 from .statements import DAYS, days_of, folders_above, has_days
@@ -28,16 +28,18 @@ MAX_DAYS_AT_ONCE, AT_ONCE = 1_000_000, 1_000
 
 class Machines(NamedTuple):
     """The folders of machines whose days are looked at, what these are called, and the folders in which they are; and
-    the folders of all machines in those that are named."""
+    the folders of all machines in those that are named, and what several of these are called."""
 
     folders: frozenset[str] = frozenset()
     names: frozenset[str] = frozenset()
     places: frozenset[str] = frozenset()
     every: frozenset[str] = frozenset()
+    alike: frozenset[str] = frozenset()
 
     def among(self, every: frozenset[str]) -> "Machines":
         """These among all."""
-        return self._replace(every=self.folders | every, names=self.names.union(map(os.path.basename, every)))
+        return self._replace(every=self.folders | every, names=self.names.union(map(os.path.basename, every)),
+                             alike=namesakes(self.folders | every))
 
 
 class Plan(NamedTuple):

@@ -29,10 +29,10 @@ from .audit import change_of, counted_once
 from .drawing import drawn_of, likelihoods
 from .events import OWN, EventsCall, PageOfEvents, compared as answer_compared, folders_of, is_of_events, renamed_in
 from .judging import ONLY_MADE, Judging, Unjudgeable
-from .days import NAMESAKES, namesakes
+from .days import NAMESAKES
 from .planning import (Machines, beside_years, is_of_days, is_of_several, machines_below, names_of, once,
                        planned, those_among)
-from .signature import GOOD, NONE, UNSEEN, Signers, in_words, signed_in
+from .signature import GOOD, NONE, UNFIT, UNSEEN, Signers, in_words, signed_in
 from .statements import (Compared as YearCompared, compared as year_compared, days_of, folders_above,
                          unanswered_in)
 from .twins import SeenFolders
@@ -350,14 +350,16 @@ class Need(NamedTuple):
 def verify(verifier: Verifier, signers: Signers, need: Need, path: str, named: set[str], how: How,
            machines: Machines) -> Compared:
     """What verifying a folder comes to. With a file of those who may sign it, a folder that nobody signed differs too,
-    if its own signature has to be one, and one that a machine signed which isn't its own."""
+    if its own signature has to be one, one that a machine signed which isn't its own, and one whose signature doesn't
+    fit, whatever rests on it."""
     findings, unsigned, notes = list[str](), list[str](), list[str]()
     try:
         with Folder(path) as folder:
             signature, signed = signers.signature_of(folder), signed_in(folder)
             is_signed = need.is_signed and (signed in RESTS or not need.is_resting)
-            if is_signed and signature.state == GOOD and (why := not_its_own(folder, signature.signer, machines)):
-                unsigned.append(f"{in_words(signature)}: {why}")
+            why = not_its_own(folder, signature.signer, machines) if signature.state == GOOD else ""
+            if signature.state == UNFIT or why and (is_signed or why == OWN_DAYS):
+                unsigned.append(": ".join(filter(None, [in_words(signature), why])))
             elif signature.state in (GOOD, UNSEEN) or not is_signed:
                 notes += [in_words(signature)] * (signature.state != NONE)
             elif signature.state != NONE or signers.given is not None:
@@ -407,7 +409,7 @@ def not_its_own(folder: Folder, signer: str, machines: Machines) -> str:
     above, names, places = os.path.dirname(path), machines.names, machines.places
     if signed == files.AUDIT:
         if own in {os.path.basename(one) for one in (path, above, *(machines.folders & folders_above(path)))}:
-            return NAMESAKES.format(own) if own in namesakes(machines.every) else ""
+            return NAMESAKES.format(own) if own in machines.alike else ""
         places |= {above, os.path.dirname(above)}
     else:
         names |= stated_in(folder.data(signed), signed)

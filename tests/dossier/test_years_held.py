@@ -663,3 +663,29 @@ def test_namesakes_beside(place: Path) -> None:
             told = dossier("verify", "--as-signed", "--known", *among, folder, fleet, env=env)
             line = next(line for line in told[1].decode().splitlines() if line.startswith(f"{folder}: "))
             check(f"{folder.name} beside {within}", status=(told[0], status), said=(words in line, bool(status)))
+
+
+def test_signatures_of_days(place: Path) -> None:
+    """A signature that doesn't fit, or by another machine's key, isn't as it was signed, though a year rests on that
+    day."""
+    if not is_here("ssh-keygen", "a fleet that signs"):
+        return
+    signers, fleet = signers_of(place, "ann", "web-1", "web-2"), place / "fleet"
+    own, _ = folders = [day(fleet / name, 0, RIGHT, client=client) for name, client in (
+        ("web-1", "192.0.2.10"), ("web-2", "192.0.2.11"))]
+    dossier("audit", *folders)
+    pages, answer = year_of(place, *(folder.parent for folder in folders)), answer_of(place, own.parent)
+    dossier("sign", "--key", place / "ann", pages, answer)
+    for key, words in (("web-1", "by web-1"), ("ann", "by ann"), ("web-2", OWN), ("", "the signature doesn't fit")):
+        signature = Path(f"{own}/audit.json.sig")
+        if key:
+            sign(place, key, own / "audit.json")
+        else:
+            shutil.copy(pages / "year.json.sig", signature)
+        is_bad = key in ("web-2", "")
+        for folder in pages, answer:
+            for way in "--known", "--answers":
+                status, out, _ = dossier("verify", way, "--as-signed", "--signers", signers, folder, fleet)
+                check(f"{folder.name} with a day by {key or 'no key'} {way}", status=(status, int(is_bad)), said=(
+                    words in out.decode(), True), last=(
+                    f"not as it was signed: {own};" in out.decode().splitlines()[-1], is_bad))
