@@ -230,7 +230,7 @@ def day_folders(wanted: YearCall, folder: Folder, name: str) -> Iterator[DayFold
             return
         written, by = read_record(folder.data(f"{name}/{AUDIT}")), wanted.answering.get(name, "")
         record = wanted.known.shown(folder.sum(f"{name}/{AUDIT}"), written)
-        signer = signer_of(wanted, folder, name) if by or not record else ""
+        signer = signer_of(wanted, folder, name, by) if by or not record else ""
         if not record and signer and by in ("", signer):
             record, by = written, signer
         if by not in ("", NOBODY, signer) and wanted.signers.given is not None:
@@ -273,12 +273,12 @@ def found_since(known: Known, record: Record | None) -> str:
     return DISPUTED if known.dispute(record) else " and ".join(sorted({*record.verdicts}))
 
 
-def signer_of(wanted: YearCall, folder: Folder, name: str) -> str:
-    """Who signed a day that isn't known here, if that is its machine, and no other one is called so."""
+def signer_of(wanted: YearCall, folder: Folder, name: str, said: str) -> str:
+    """Who signed a day that isn't known here, if that is its machine, and no other one is called so; as is said."""
     if wanted.signers.given is None or wanted.is_namesake(folder.path) or not folder.has(f"{name}/{SIGNATURE}"):
         return ""
     with Folder(os.path.join(folder.path, name)) as day:
-        signer = wanted.signers.machine_of(day, folder.path)
+        signer = wanted.signers.machine_of(day, folder.path, said)
         if signer in (VERIFIED, NOBODY):  # (in a line of a file of days that says something else)
             return ""
         return signer if day.sum(AUDIT) == folder.sum(f"{name}/{AUDIT}") else ""

@@ -46,8 +46,8 @@ MAX_NOTES = 20
 
 class EventsCall(NamedTuple):
     """What is asked for, by what is known here, a list of leap seconds and a program; how many seconds each folder has,
-    how many are worked on side by side, and what makes a page; who may have signed what isn't known here, the folders
-    that count by that in an answer that is to be verified, and those of other machines."""
+    how many are worked on side by side, and what makes a page; who may have signed what isn't known here, who
+    signed which folders that count by that in an answer that is to be verified, and the folders of other machines."""
 
     asked: Asked
     known: Known
@@ -57,7 +57,7 @@ class EventsCall(NamedTuple):
     jobs: int = 1
     page: "PageOfEvents | None" = None
     signers: Signers = Signers(None)
-    signed: frozenset[str] = frozenset()
+    signed: dict[str, str] = {}
     others: frozenset[str] = frozenset()
 
 
@@ -172,7 +172,8 @@ class Where:
 def known_of(call: EventsCall, machine: str, folder: Folder, written: Record) -> tuple[Record | None, str]:
     """The record of a folder as it is known here; else as its machine signed it, and who did."""
     record = call.known.shown(folder.sum(AUDIT), written)
-    by = call.signers.machine_of(folder, machine) if not record or folder.path in call.signed else ""
+    said = call.signed.get(folder.path, "")
+    by = call.signers.machine_of(folder, machine, said) if not record or said else ""
     record = written if by and not record else record
     return (record, by) if record and (record.refusal or is_of_claim(folder, record)) else (None, "")
 
@@ -363,10 +364,11 @@ def compared(folder: Folder, call: EventsCall) -> Compared:
     data, machines = folder.data(LOG), [machine_at(folder, resting) for resting in kept.machines]
     if sum_of(data) != kept.log:
         return Compared(f"{LOG} isn't the file that {EVENTS} names")
-    signed = {path_in(machine.path, name) for machine, own in zip(machines, kept.machines) for name in own.by}
+    signed = {path_in(machine.path, name): by for machine, own in zip(machines, kept.machines)
+              for name, by in own.by.items()}
     if signed and call.signers.given is None:
         return Compared(NO_SIGNERS)
-    call = call._replace(asked=kept.asked, signed=frozenset(signed))
+    call = call._replace(asked=kept.asked, signed=signed)
     working = Working(call, read_log(data, kept.asked.machine, kept.asked.time), machines)
     for machine, own in zip(machines, kept.machines):
         if own.by and (name := os.path.basename(absolute(machine.path))) in working.alike:

@@ -27,6 +27,7 @@ NAMESPACE = "ntpaudit-dossier"
 NONE, UNSEEN, GOOD, UNFIT, STRANGER = "none", "unseen", "good", "unfit", "stranger"
 KEY = re.compile(r"with (\S+) key (\S+)")
 PLAIN_NAME = re.compile(rb"[A-Za-z0-9][A-Za-z0-9@._-]*")
+USER = re.compile("[A-Za-z0-9._-]{1,32}")
 NO_KEYGEN = "ssh-keygen isn't installed, which makes signatures and looks at them"
 SIGNED, SIGNERS = "signed", "signers"
 """Private copies of what was signed, and of who may sign."""
@@ -100,14 +101,17 @@ class Signers:
                 sums, *name = came
                 self.seen[bytes.fromhex(sums)] = names.setdefault((name[0], name[1]), (name[0], name[1]))
 
-    def machine_of(self, day: Folder, path: str) -> str:
-        """Who signed a day, in a word, if that is its machine, whose folder's path is given. Nothing if it isn't, or if
-        nobody is named who may sign."""
+    def machine_of(self, day: Folder, path: str, said: str = "") -> str:
+        """Who signed a day, in a word, if that is its machine, whose folder's path is given; in the word that is said
+        of it, if that is the machine's too, since another file of signers may call it otherwise. Nothing if it isn't,
+        or if nobody is named who may sign."""
         if self.given is None:
             return ""
         signature, machine = self.signature_of(day), os.path.basename(absolute(path))
         is_its_own = signature.state == GOOD and is_called(signature.signer, machine)
-        return re.sub(r"\s", lambda blank: spelled(blank[0]), plain(signature.signer)) if is_its_own else ""
+        user, at, host = said.rpartition("@")
+        is_said = said == in_a_word(machine) or bool(at) and host == in_a_word(machine) and USER.fullmatch(user)
+        return (said if is_said else in_a_word(signature.signer)) if is_its_own else ""
 
     def looked_at(self, at: str, on: list[str], machine: str) -> Signature:
         """What `ssh-keygen` says of a private copy of a signature that was made at this time. Of several who have its
@@ -133,6 +137,11 @@ class Signers:
         tool = find_tool("ssh-keygen", NO_KEYGEN)
         status, said, error = run([tool, "-Y", *words, "-s", SIGNATURE], SIGNED)
         return status, said.decode("utf-8", "replace"), error.decode("utf-8", "replace")
+
+
+def in_a_word(signer: str) -> str:
+    """A signer as a word of a line."""
+    return re.sub(r"\s", lambda blank: spelled(blank[0]), plain(signer))
 
 
 def is_called(signer: str, machine: str) -> bool:

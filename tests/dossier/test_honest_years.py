@@ -12,6 +12,7 @@ from tests.dossier.test_events import NOON, log_of
 from tests.dossier.test_evidence import key_of
 from tests.dossier.test_fleets import days_of, machine
 from tests.dossier.test_years import DAY, FIRST, RIGHT, WIDE, day
+from tests.dossier.test_years_held import sign
 from tests.tools.wire import records_of
 
 from dossier.fleet.days import in_words
@@ -381,3 +382,29 @@ def test_not_ended(place: Path) -> None:
     dossier("year", "--year", "2001", "--split", place / "pages", own)
     dossier("sign", "--key", key, place / "pages")
     check("a year that has ended", said=("hadn't ended" in as_signed(place)[1], False))
+
+
+def test_principals_of_others(place: Path) -> None:
+    """A machine's key is its own by the auditor's file of signers too, if that calls the machine otherwise."""
+    if not is_here("ssh-keygen", "a fleet that signs"):
+        return
+    own, here = machine(place / "fleet", "web-1"), {**ENVIRONMENT, "XDG_STATE_HOME": str(place / "here")}
+    line = key_of(place, "web-1")[1]
+    dossier("audit", *days_of(own), env={**ENVIRONMENT, "XDG_STATE_HOME": str(place / "own")})
+    for path in days_of(own):
+        sign(place, "web-1", path / "audit.json")
+    ann, signers = key_of(place, "ann"), place / "signers"
+    among, (host, pages, answer) = ("--signers", signers), (line.split()[0], place / "pages", place / "answer")
+    for theirs, mine, status in (("web-1", "root@web-1", 0), ("root@web-1", "web-1", 0), ("root@web-1", "ntp@web-1", 0),
+                                 ("web-1", "web-2", 1), ("web-1", "root@web-2", 1)):
+        signers.write_text(line.replace(host, theirs) + ann[1])
+        dossier("year", "--year", "2001", *among, "--split", pages, own, env=here)
+        dossier("events", *among, "--split", answer, log_of(place, f"machine,time\nweb-1,{NOON}Z\n"), own, env=here)
+        dossier("sign", "--key", ann[0], *among, pages, answer, env=here)
+        check(f"days signed by {theirs}", said=(f" {theirs} " in (pages / f"{called(own)}.days").read_text(), True))
+        signers.write_text(line.replace(host, mine) + ann[1])
+        for folder in pages, answer:
+            told = dossier("verify", "--as-signed", "--answers", *among, folder, own, env=here)
+            check(f"{folder.name} by {theirs}, here {mine}", status=(told[0], status))
+        shutil.rmtree(pages)
+        shutil.rmtree(answer)
