@@ -18,7 +18,7 @@ from ..text import listed
 from .days import is_day, namesakes
 from .events import folders_of, is_of_events
 from .signature import signed_in
-from .statements import DAYS, days_of, folders_above, has_days
+from .statements import DAYS, NOTHING, days_of, folders_above, has_days
 
 OF_ITS_OWN = {*files.SIGNATURES, *files.SIGNATURES.values(), *files.LEFT, files.LIST, files.ANSWERED}
 """Files of an audit, a year or an answer. (A log may lie among machines before it is answered.)"""
@@ -76,7 +76,7 @@ def planned(folders: list[str], named: set[str], seconds: int) -> Plan:
         found = days_below(folder, named, seconds) if folder in with_days else Below({})
         if isinstance(found, Refusal):
             refused[folder], found = found, Below({})
-        resting.update(found.days)
+        resting.update(found.days, found.without_audit)
         below[folder] = [day for day in found.days if not found.is_of_events or files.absolute(day) not in named]
         if found.is_of_events:
             of_events.append(folder)
@@ -203,8 +203,9 @@ def days_below(path: str, named: set[str], seconds: int) -> Below | Refusal:
             if signed_in(folder) != files.YEAR:
                 return Below({})
             days, year = days_of(folder, named), read_statements(folder.data(files.YEAR))
-            return Below({day: name for day, name in days.items() if is_there(day)},
-                         span=(str(year.year), year.made[:10]))
+            return Below({day: name for day, name in days.items() if name != NOTHING and is_there(day)},
+                         span=(str(year.year), year.made[:10]),
+                         without_audit=[day for day, name in days.items() if name == NOTHING])
     return run_one(path, work, Below, seconds)
 
 

@@ -156,9 +156,9 @@ def read_lines(data: bytes) -> list[Line]:
 
 
 def days_of(folder: Folder, named: set[str]) -> dict[str, str]:
-    """The folders of all days on which the statements rest, each with its name for good. Each has to be in a folder
-    that the command line names, and stands for one machine. (A stranger's path may be thousands of folders deep: those
-    above it aren't worked out.)"""
+    """The folders of all days that the statements count or name, each with its name for good. Each has to be in a
+    folder that the command line names, and stands for one machine. (A stranger's path may be thousands of folders
+    deep: those above it aren't worked out.)"""
     days, seen, tops = dict[str, str](), set[str](), {f"{name.rstrip('/')}/" for name in named}
     lengths = set(map(len, tops))
     for stated in read_statements(folder.data(YEAR)).machines:
@@ -171,7 +171,7 @@ def days_of(folder: Folder, named: set[str]) -> dict[str, str]:
                 raise fault(f"{line.path} stands there twice: one of the statements is a copy")
             days[line.path] = line.name
             seen.add(path)
-    return {path: name for path, name in days.items() if name != NOTHING}
+    return days
 
 
 def is_named(folder: Folder, stated: Stated) -> bool:

@@ -296,11 +296,12 @@ class Timed:
 @dataclass(frozen=True)
 class Below:
     """The days on which what stands in a folder rests, each with its name for good; whether that is an answer to a log
-    of events; and of a year its number, and the day on which it was made."""
+    of events; and of a year its number, the day on which it was made, and the days that it names without an audit."""
 
     days: dict[str, str]
     is_of_events: bool = False
     span: tuple[str, str] = ("", "")
+    without_audit: list[str] = field(default_factory=list)
 
 
 @dataclass(frozen=True)

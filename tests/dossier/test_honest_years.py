@@ -408,3 +408,21 @@ def test_principals_of_others(place: Path) -> None:
             check(f"{folder.name} by {theirs}, here {mine}", status=(told[0], status))
         shutil.rmtree(pages)
         shutil.rmtree(answer)
+
+
+def test_day_without_audit(place: Path) -> None:
+    """A day without an audit, which its year names as not counted, is as it was signed, until it has one."""
+    if not is_here("ssh-keygen", "a year that is signed"):
+        return
+    own = machine(place / "fleet", "web-1", 3)
+    dossier("audit", *days_of(own)[:2])
+    signed_year(place, own)
+    for way in WAYS:
+        status, text = as_signed(place, way)
+        check(f"a day without an audit {way}", status=(status, 0), last=(
+            f"{own} 2001-09-11 not counted" in last_of(text), True))
+    dossier("audit", own / "2001-09-11")
+    for way in WAYS:
+        status, text = as_signed(place, way)
+        check(f"a day that was audited later {way}", status=(status, 1), said=(
+            f"{own}/2001-09-11 isn't the day that" in text, True))
