@@ -134,9 +134,9 @@ def year_of(wanted: YearCall, machine: str, names: list[str]) -> Year:
         folders = [one for name in days[:MAX_FOLDERS] for one in day_folders(wanted, folder, name)]
         others = [ITS_OWN] * folder.has(AUDIT)
     left = days[MAX_FOLDERS:]
-    claims = {same(one.claim): one.claim for one in folders if one.claim}
-    common = max(claims, key=Counter(same(one.claim) for one in folders if one.claim).__getitem__, default="")
     dates, today = dates_of(wanted.year, wanted.at), day_of(wanted.at)
+    claim = common_claim(folders, dates)
+    common = same(claim) if claim else ""
     kept, beside = dict[str, Told](), dict[str, Told]()
     others += [f"{name} is named twice" for name in twice]
     others += [f"{plain(name)}: {len(left)} folders from it on are more than {MAX_FOLDERS}" for name in left[:1]]
@@ -157,8 +157,19 @@ def year_of(wanted: YearCall, machine: str, names: list[str]) -> Year:
     told_of_all = [kept.get(date) or beside.get(date) or Told(date, MISSING) for date in dates]
     captures = {sum_ for one in folders if kept.get(one.told.date) is one.told
                 for sum_ in few_of(one.captures, 366 * wanted.machines)}
-    return Year(in_words(machine), told_of_all, claims.get(common), sorted(others), list(made), sorted(captures),
+    return Year(in_words(machine), told_of_all, claim, sorted(others), list(made), sorted(captures),
                 path=in_a_line(machine))
+
+
+def common_claim(folders: list[DayFolder], dates: list[str]) -> Claim | None:
+    """The claim that most of these dates have, of as many the one of the earliest. Folders that a year doesn't name in
+    the end don't change it: those of other dates, and of one date a second of the same claim."""
+    claims, among = dict[str, dict[str, Claim]](), set(dates)
+    for one in folders:
+        if one.claim and one.told.date in among and one.told.verdict != NOT_COUNTED:
+            claims.setdefault(same(one.claim), {})[one.told.date] = one.claim
+    common = min(claims, key=lambda words: (-len(claims[words]), min(claims[words]), words), default="")
+    return next(iter(claims[common].values())) if claims else None
 
 
 @cache

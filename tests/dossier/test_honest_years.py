@@ -426,3 +426,22 @@ def test_day_without_audit(place: Path) -> None:
         status, text = as_signed(place, way)
         check(f"a day that was audited later {way}", status=(status, 1), said=(
             f"{own}/2001-09-11 isn't the day that" in text, True))
+
+
+def test_claims_of_other_days(place: Path) -> None:
+    """Which claim counts hangs on no folder that the year doesn't name: of another year, or a copy of a day."""
+    if not is_here("ssh-keygen", "a year that is signed"):
+        return
+    for number, (what, dates) in enumerate(rows(("another year", ["2000-09-10", "2000-09-11"]),
+                                                ("copies", ["2001-09-10", "2001-09-10"]))):
+        whole = place / f"{number}"
+        own = machine(whole / "fleet", "web-1", 1)
+        for at, date in enumerate(dates):
+            folder = day(own, 1, RIGHT, f"x{at}", bound_ns=900_000)
+            claim = (folder / "claim.json").read_text()
+            (folder / "claim.json").write_text(claim.replace("2001-09-10T", f"{date}T").replace(
+                "2001-09-11T", f"{date[:9]}{int(date[9:]) + 1}T"))
+        dossier("audit", *days_of(own))
+        signed_year(whole, own)
+        status, text = as_signed(whole)
+        check(f"claims of {what}", status=(status, 0), last=(last_of(text).startswith("all is as it was signed"), True))
