@@ -153,7 +153,7 @@ def year_of(wanted: YearCall, machine: str, names: list[str]) -> Year:
                           f"{plain(kept[told.date].folder)}")
         else:
             kept[told.date] = told
-    made = {one.made: None for one in folders if one.made and one.told.date in kept}
+    made = {one.made: None for one in folders if one.made and kept.get(one.told.date) is one.told}
     told_of_all = [kept.get(date) or beside.get(date) or Told(date, MISSING) for date in dates]
     captures = {sum_ for one in folders if kept.get(one.told.date) is one.told
                 for sum_ in few_of(one.captures, 366 * wanted.machines)}

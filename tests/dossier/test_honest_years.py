@@ -445,3 +445,18 @@ def test_claims_of_other_days(place: Path) -> None:
         signed_year(whole, own)
         status, text = as_signed(whole)
         check(f"claims of {what}", status=(status, 0), last=(last_of(text).startswith("all is as it was signed"), True))
+
+
+def test_copy_by_another_build(place: Path) -> None:
+    """A statement names the programs of the days that count, and not that of a copy, which nobody looks at."""
+    if not is_here("ssh-keygen", "a year that is signed"):
+        return
+    own, build = machine(place / "fleet", "web-1"), place / "ntpaudit"
+    dossier("audit", *days_of(own))
+    shutil.copy(PROGRAM, build)
+    with open(build, "ab") as opened:
+        opened.write(b"\0")
+    dossier("audit", day(own, 0, RIGHT, "old"), env={**ENVIRONMENT, "NTPAUDIT": str(build)})
+    signed_year(place, own)
+    text = (place / "pages" / "year.json").read_text()
+    check("a copy by another build", programs=(text.count("SHA-256"), 1), status=(as_signed(place)[0], 0))
