@@ -5,7 +5,7 @@ import re
 from collections.abc import Collection, Iterable
 from contextlib import suppress
 from functools import cache
-from itertools import dropwhile, groupby
+from itertools import accumulate, dropwhile, groupby
 from typing import NamedTuple
 
 from ..fault import Fault, fault
@@ -16,6 +16,7 @@ from ..folder.registry import Known
 from ..folder.result import Told, Year
 from ..folder.year import Stated, Statements, read_statements
 from ..records import replace
+from ..schema import is_text
 from ..text import count, label, listed, plain, spelled
 from ..units import low_ms, ns_ms, ns_up_ms, seconds_of
 from .days import (NAMESAKES, NOBODY, UNKNOWN, VERIFIED, Twins, YearCall, in_words, is_day, missing_days, namesakes,
@@ -40,10 +41,13 @@ PAGES = f"its pages are those of which {YEAR} has the sums: they weren't made ag
 ANY_PAGES = "its pages weren't looked at: `year --split` makes them again in another folder"
 """Of a year's pages, and of those of one that has no sums of them."""
 PROGRAM = re.compile(f"({BUILD}), SHA-256 ([0-9a-f]{{64}})")
+MORE_PROGRAMS = re.compile("; ([0-9]{1,3}) more programs?[.]$")
 BY_ANOTHER = "made by another program than the one by which its days are known here"
 UNSEEN_OF = "of {} the signature by which it counts wasn't looked at (--signers FILE does)"
 MAX_LINES, MAX_OF_A_PATH, MAX_OF_A_NOTE = 366, 4_096, 200
 """Lines of a file of days, and characters of a path in it, and of a statement in a note."""
+MAX_NAMED, MAX_OF_NAMES = 10, 3_000
+"""Names that a statement has of a kind, and bytes of them."""
 
 
 def statement(year: Year) -> str:
@@ -63,18 +67,37 @@ def statement(year: Year) -> str:
     said += [f"The longest time without a day that is shown is {count(length_, 'day')} from {first} on."] \
         if length_ else []
     said += figures_of(year)
-    said += [f"{count(number, 'day')} {'is' if number == 1 else 'are'} signed by {in_quotes(signer)}, and nobody made "
+    said += [f"{count(number, 'day')} {'is' if number == 1 else 'are'} signed by {signer}, and nobody made "
              f"{'it' if number == 1 else 'them'} again where this was put together."
-             for signer, number in year.signers.items()]
-    twins, alike = (listed([in_quotes(machine) for machine in machines]) for machines in (year.twins, year.alike))
+             for signer, number in signers_named(year.signers).items()]
+    twins, alike = (few_named([in_quotes(machine) for machine in machines], "more machine")
+                    for machines in (year.twins, year.alike))
     said += [f"{TWINS} {twins} too, so one of them is a copy."] if twins else []
     said += [f"{alike} {'has' if len(year.alike) == 1 else 'have'} {ALIKE}."] if alike else []
     return " ".join([*said, f"Audited by {programs_named(year.programs)}."])
 
 
+def few_named(names: list[str], what: str, between: str = ", ") -> str:
+    """Names in a sentence, and how many more there are: a statement that is too long can't be signed."""
+    first = [name for name, end in zip(names[:MAX_NAMED], accumulate(len(name.encode()) for name in names))
+             if end <= MAX_OF_NAMES]
+    more = len(names) - len(first)
+    words = first + [count(more, what)] * bool(more)
+    return listed(words) if between == ", " else between.join(words)
+
+
+def signers_named(signers: dict[str, int]) -> dict[str, int]:
+    """Who signed how many days, the first of them by their names."""
+    every = list(signers.items())
+    rest = every[MAX_NAMED:]
+    more = {f"{count(len(rest), 'more name')} of it": sum(number for _, number in rest)} if rest else {}
+    return {in_quotes(signer): number for signer, number in every[:MAX_NAMED]} | more
+
+
 def programs_named(programs: list[Made]) -> str:
     """Programs in a sentence."""
-    return "; ".join(f"{made.version or 'ntpaudit'}, SHA-256 {made.sha256}" for made in programs)
+    named = [f"{made.version or 'ntpaudit'}, SHA-256 {made.sha256}" for made in programs]
+    return few_named(named, "more program", "; ")
 
 
 def figures_of(year: Year) -> list[str]:
@@ -139,7 +162,10 @@ def lines_of(place: str, year: Year) -> bytes:
 
 def stated_of(year: Year, file: str, sum_: str) -> Stated:
     """What is said of a machine's year, which rests on the sums in a file that has this sum."""
-    return Stated(year.machine, statement(year), year.counts[YES], len(year.days), file, sum_)
+    words = statement(year)
+    if not is_text(words):
+        raise fault(f"{label(year.machine)}: its statement is too long to be signed: call its folder otherwise")
+    return Stated(year.machine, words, year.counts[YES], len(year.days), file, sum_)
 
 
 def read_lines(data: bytes) -> list[Line]:
@@ -310,7 +336,9 @@ def compared(folder: Folder, known: Known, leaps: LeapList, signers: Signers = S
 
 def programs_in(statement: str) -> list[Made]:
     """The programs by which a statement says that days were audited."""
-    return [Made(*found.groups()) for found in PROGRAM.finditer(statement.rpartition("Audited by ")[2])]
+    named, more = statement.rpartition("Audited by ")[2], MORE_PROGRAMS.search(statement)
+    rest = [Made("", NOTHING)] * int(more[1] if more else 0)  # (of these a statement says how many there are)
+    return [Made(*found.groups()) for found in PROGRAM.finditer(named)] + rest
 
 
 def other_page(folder: Folder, statements: Statements) -> str:

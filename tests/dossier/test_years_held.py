@@ -14,11 +14,14 @@ from tests.dossier.test_evidence import key_of
 from tests.dossier.test_years import RIGHT, day
 
 from dossier import units
+from dossier.fault import Fault
 from dossier.fleet import days, planning, statements
+from dossier.folder.entry import Made
 from dossier.folder.files import Folder
 from dossier.folder.registry import Known
 from dossier.folder.table import Table
 from dossier.premise.leap import read_list
+from dossier.records import replace
 
 OWN = "a machine's key signs its own days alone"
 FOLLOWS = "verified: its statements follow from the audits of its days"
@@ -689,3 +692,37 @@ def test_signatures_of_days(place: Path) -> None:
                 check(f"{folder.name} with a day by {key or 'no key'} {way}", status=(status, int(is_bad)), said=(
                     words in out.decode(), True), last=(
                     f"not as it was signed: {own};" in out.decode().splitlines()[-1], is_bad))
+
+
+def test_long_statements(place: Path) -> None:
+    """Of machines with recordings in common, of signers and of programs a statement names ten, so that it is one that
+    can be signed; and one that is too long all the same isn't written."""
+    if not is_here("ssh-keygen", "a year that is signed"):
+        return
+    signers, fleet = signers_of(place, "ann"), place / "fleet"
+    dossier("audit", first := day(fleet / "web-0", 0, RIGHT))
+    machines = [first.parent, *(shutil.copytree(first.parent, fleet / f"web-{number}") for number in range(1, 14))]
+    pages = year_of(place, *machines)
+    words = json.loads((pages / "year.json").read_text())["machines"][0]["statement"]
+    check("fourteen machines with one recording", sign=(dossier("sign", "--key", place / "ann", pages)[0], 0), said=(
+        f"web-9, {fleet}/web-10 and 3 more machines too" in words, True), verify=(
+            dossier("verify", "--known", "--as-signed", "--signers", signers, pages, fleet)[0], 0))
+    known = Known(str(place / "state"), False)
+    known.believes = True
+    year = days.year_of(days.YearCall(2001, known, read_list(None), 2 * 999_993_600), str(first.parent), [])
+    names = [f"{'x' * 250}/{number}" for number in range(330)]
+    told = [replace(one, by=f"u{number:03}@web-0") for number, one in enumerate(year.days)]
+    year = replace(year, twins=names, alike=names, days=told, programs=[
+        Made(f"ntpaudit {number}", f"{number:064}") for number in range(366)])
+    words = statements.statement(year)
+    for said in ("/9 and 320 more machines too, so", "/9 and 320 more machines have days",
+                 "1 day is signed by u009@web-0,", "355 days are signed by 355 more names of it,",
+                 "; 356 more programs."):
+        check(f"a long statement: {said}", said=(said in words, True))
+    check("the programs of a long statement", programs=(statements.programs_in(words)[:10], year.programs[:10]), same=(
+        statements.programs_named(statements.programs_in(words)), statements.programs_named(year.programs)))
+    try:
+        made = statements.stated_of(replace(year, machine="x" * 20_000), "", "")
+        check("a statement that is too long", made=(made, None))
+    except Fault as error:
+        check("a statement that is too long", said=("is too long to be signed" in error.line, True))
