@@ -6,8 +6,11 @@ from ..text import count
 
 
 def drawn_of(names: dict[str, str], number: int, seed: str) -> set[str]:
-    """So many days: those for which the SHA-256 of the seed, a blank and the day's name is the least."""
-    return set(sorted(names, key=lambda path: (sum_of(f"{seed} {names[path]}".encode()), path))[:number])
+    """So many days: those for which the SHA-256 of the seed, a blank and the day's name is the least. (The seed's bytes
+    are those that a shell hands over, UTF-8 or not.)"""
+    def sum_by_seed(path: str) -> tuple[str, str]:
+        return sum_of(f"{seed} {names[path]}".encode("utf-8", "surrogateescape")), path
+    return set(sorted(names, key=sum_by_seed)[:number])
 
 
 SHARES = (1, 5)

@@ -189,12 +189,12 @@ def test_sample(place: Path) -> None:
     dossier("audit", *days_of(own))
     dossier("year", "--year", "2001", "--split", place / "pages", own)
     lines = [line.split(" ", 3) for line in (place / "pages" / f"{called(own)}.days").read_text().splitlines()]
-    for seed in ("4 1 6 6", "x"):
-        by_rule = sorted(lines, key=lambda line: hashlib.sha256(f"{seed} {line[0]}".encode()).hexdigest())[:3]
+    for seed in ("4 1 6 6", os.fsdecode(b"\xff"), "x"):
+        by_rule = sorted(lines, key=lambda line: hashlib.sha256(os.fsencode(f"{seed} {line[0]}")).hexdigest())[:3]
         status, out, _ = dossier("verify", "--sample", 3, "--seed", seed, place / "pages", place / "fleet")
         seen = re.findall(r"(\S+): verified: ", out.decode())
         days = [{Path(path).name for path in paths} for paths in (seen, [path for *_, path in by_rule])]
-        check(f"drawn by {seed}", days=(days[0], days[1]), said=(
+        check(f"drawn by {seed!r}", days=(days[0], days[1]), said=(
             "3 of 8 days were drawn and made again: had 1 % of all been bad (1), one would have been drawn with 37.5 %"
             in out.decode(), True))
     other = [own / "2001-12-31", place / "fleet" / "web-2" / "2001-09-09"]
