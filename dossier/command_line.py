@@ -420,6 +420,8 @@ def run_on_folders(given: argparse.Namespace, folders: list[str]) -> int:
     verifier = Verifier(program, known, leaps, find_second() if given.second else None, page_of)
     if (given.sample is None) != (given.seed is None):
         raise fault("--sample and --seed go together: who draws has to name what the days are drawn by", USAGE)
+    if given.seed is not None and not given.seed.strip():
+        raise fault("--seed is empty: anybody knew before all was signed which days that draws", USAGE)
     if given.as_signed and given.signers is None:
         raise fault("--as-signed takes --signers: a signature that nobody looks at says nothing", USAGE)
     how = How(given.answers, given.known, given.sample, given.seed or "", given.as_signed)

@@ -163,8 +163,7 @@ def test_free_words(place: Path) -> None:
     texts.append((place / "page.html").read_text())
     for text, how in zip(texts, ("while it is verified", "once it is verified")):
         check(f"a page of free words, {how}", yes=('class="verdict yes"' in text, True),
-              theirs=([word in text for word in ("PTB", "9.8.7", "2001-01-01", "77777", "0000000000000000")],
-                      [False] * 5))
+              theirs=([word for word in ("PTB", "9.8.7", "2001-01-01", "77777", "0" * 16) if word in text], []))
     made = float((place / "m.prom").read_text().split("ntpaudit_last_audit_timestamp_seconds{")[1].split()[1])
     check("the time of the last audit is that of verifying", near=(abs(made - time.time()) < 600, True))
     whole, signed = record_of(folder), Path(shutil.copytree(folder, place / "signed"))

@@ -226,6 +226,13 @@ def test_sample(place: Path) -> None:
                                        ["99.9 %", "certainty"]))
 
 
+def test_empty_seed(place: Path) -> None:
+    """Who draws names what the days are drawn by."""
+    for seed in "", " ":
+        status, _, err = dossier("verify", "--sample", 3, "--seed", seed, place)
+        check(f"the seed {seed!r}", status=(status, 5), said=(b"--seed is empty" in err, True))
+
+
 def test_sample_of_several(place: Path) -> None:
     """A folder of several days isn't drawn, but made again: else one of the names would stand for many days."""
     own, month = machine(place / "fleet", "web-1", 3), place / "fleet" / "web-2" / "september"
