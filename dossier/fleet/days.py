@@ -35,6 +35,8 @@ OTHER = "another claim or client than most days have"
 NO_DAY = "its name is no day, and it has no audit.json"
 UNKNOWN = f"{AUDIT} was neither made nor verified here, or is of another {CLAIM}"
 NAMESAKES = "more than one machine is called {}, so nobody knows whose key that is"
+REFUSED_BY = "it was refused by what {} signed"
+"""Of a machine's own words none are on a page that somebody else signs."""
 ITS_OWN = f"{AUDIT}: it is of the folder of all days, and of none of them"
 VERIFIED, NOBODY = "verified", "-"
 """Who answers for a day that was made or verified where a year was put together, and for one that is known nowhere."""
@@ -257,7 +259,8 @@ def day_folders(wanted: YearCall, folder: Folder, name: str) -> Iterator[DayFold
     if record is None or record.refusal:
         if unknown == UNKNOWN and wanted.signers.given is not None and wanted.is_namesake(folder.path):
             unknown += f"; {NAMESAKES.format(os.path.basename(absolute(folder.path)))}"
-        verdict, why = (REFUSED, record.refusal.line) if record and record.refusal else (NOT_VERIFIED, unknown)
+        verdict, why = (NOT_VERIFIED, unknown) if not record or not record.refusal else \
+            (REFUSED, REFUSED_BY.format(by) if by else record.refusal.line)
         told = Told(named, verdict, in_a_line(name), plain(why), name=written.name, by=by if record else "",
                     says=written.says)
         yield DayFolder(told if named else replace(told, verdict=NOT_COUNTED), made=record.program if record else None)

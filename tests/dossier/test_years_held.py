@@ -726,3 +726,20 @@ def test_long_statements(place: Path) -> None:
         check("a statement that is too long", made=(made, None))
     except Fault as error:
         check("a statement that is too long", said=("is too long to be signed" in error.line, True))
+
+
+def test_words_of_refusals(place: Path) -> None:
+    """Why an audit was refused that counts by its machine's signature isn't said in the machine's words."""
+    if not is_here("ssh-keygen", "a fleet that signs"):
+        return
+    signers, folder = signers_of(place, "web-1"), day(place / "fleet" / "web-1", 0, RIGHT)
+    (folder / "f.pcap").write_bytes(b"no capture")
+    dossier("audit", folder, env={**ENVIRONMENT, "XDG_STATE_HOME": str(place / "own")})
+    record = json.loads((folder / "audit.json").read_text())
+    record["refusal"]["line"] = "Ann saw that the clock was right"
+    (folder / "audit.json").write_text(json.dumps(record))
+    sign(place, "web-1", folder / "audit.json")
+    pages = year_of(place, "--signers", signers, folder.parent)
+    text = (pages / f"{called(folder.parent)}.html").read_text()
+    check("words of a refusal", said=([words in text for words in ("it was refused by what web-1 signed", "Ann saw")],
+                                      [True, False]))
