@@ -6,7 +6,7 @@ from collections.abc import Callable, Iterator, Sequence
 from pathlib import Path
 from typing import NamedTuple
 
-from tests.second import pieces, rules, settlement
+from tests.second import by_covers, pieces, rules, settlement
 from tests.second.claims import Claim
 from tests.second.columns import MOMENT, PIECE, PIECE_OF_SERVER, SAMPLE, TICKS, written
 from tests.second.pieces import Hulls
@@ -49,12 +49,22 @@ def at(evidence: Evidence, *words: object) -> Answer:
     if words[0] == "--times":
         return moments(evidence, Path(str(words[1])).read_text())
     time = str(words[0])
+    if "--covers" in words:
+        return covered(evidence, time)
     if MOMENT_OF_CLAIM.fullmatch(time):
         return 0, intervals(evidence, rules.ticks_of(time), rules.ticks_of(time))
     if not (ticks := reading_of(time)):
         return 5, []
     hull = evidence.hulls.over(*ticks)
     return 0, [*intervals(evidence, *ticks), *([true_times(ticks, hull)] if hull else [])]
+
+
+def covered(evidence: Evidence, time: str) -> Answer:
+    """The hull by covers over a reading, and between which true time lay."""
+    if not (ticks := reading_of(time)):
+        return 5, []
+    hull = by_covers.joined(evidence.claim, evidence.samples, *ticks)
+    return 0, [written(MOMENT, "hull", *rules.hull_fields(hull)), *([true_times(ticks, hull)] if hull else [])]
 
 
 def intervals(evidence: Evidence, begin: int, end: int) -> list[str]:

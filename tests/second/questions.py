@@ -349,7 +349,8 @@ def at_case(question: Question) -> Iterator[Case]:
     second = min(begin, 2**32 - 2)
     readings = f"{second}", f"{second}.25", f"{families.spelled(second)[:-1]}.123456789Z"
     for time in (*moments, *readings):
-        yield f"at {time}", differs(question.call("at", time), *answers.at(question.evidence, time))
+        for words in (time,), (time, "--covers"):
+            yield f"at {words}", differs(question.call("at", *words), *answers.at(question.evidence, *words))
     times = "".join(f"{reading}\n" for reading in scenes.readings(random.Random(str(question.span)), question.claim))
     ran = question.call("at", "--times", "-", given=times.encode())
     yield f"at --times of {times.split()}", differs(ran, *answers.moments(question.evidence, times))

@@ -2,8 +2,8 @@
 servers that are off, always or for a while, or creep away.
 
 `nothing fits` and `no evidence` are said just where it is so, no claim is shown that a course breaks, none is refuted
-that all keep, and none stays open but by rounding: within two ticks of the greatest error. NTPAUDIT_CLAIMS captures
-are made, in shares.
+that all keep, and none stays open but by rounding: within two ticks of the greatest error. `at --covers` gives the
+errors of a nanosecond, but for a tick and the drift in it. NTPAUDIT_CLAIMS captures are made, in shares.
 """
 import json
 import os
@@ -16,7 +16,8 @@ from math import ceil
 from pathlib import Path
 
 from tests.support import count, program, run
-from tests.second import exact
+from tests.second import exact, rules
+from tests.second.answers import reading_of
 from tests.second.claims import Claim, changed
 from tests.second.columns import TICKS
 from tests.second.rules import BILLION
@@ -84,11 +85,28 @@ def misjudged(kind: str, bound: int, farthest: exact.Farthest) -> str:
     return "" if is_near else f"{kind}, {away} ticks from the greatest error"
 
 
+def misplaced(claim: Claim, exchanges: Exchanges, time: str, file: Path) -> tuple[str, str]:
+    """The kind of the hull by covers of a reading, and what is wrong with it."""
+    (file.parent / "claim.json").write_text(json.dumps(claim))
+    status, text, err = run([PROGRAM, "at", file.parent / "claim.json", file, time, "--covers"])
+    first, last = reading_of(time) or (0, 0)
+    ends = exact.ends(claim, exchanges.samples(claim), first, last)
+    _, *said = text.decode().split("\n")[0].split(" ")
+    if status or err or isinstance(ends, str):
+        return f"hull {ends if isinstance(ends, str) else ''}", "" if said == [ends] else f"{text!r} and not {ends}"
+    away = ends[0] - int(said[0]), int(said[1]) - ends[1]
+    most = 1 + (last - first) * exact.Rates(claim["drift_ppb"]).down
+    return "hull", "" if 0 <= min(away) and max(away) < most else f"ends {[*map(float, away)]} further out"
+
+
 def compare(rng: random.Random, place: Path) -> Iterator[tuple[str, str]]:
     """The kinds of the answers to claims about one capture, each with what is wrong with it."""
     claim, exchanges = made(rng)
     farthest = exact.farthest(claim, exchanges.samples(claim))
     write(exchanges, file := place / "f.pcap")
+    begin, last = (tick // TICKS for tick in rules.span_of(claim))
+    for second in {begin - 1, rng.randint(begin, last), last + 2}:
+        yield misplaced(claim, exchanges, f"{second}.{rng.randrange(BILLION):09}", file)
     for bound_ns in [rng.randrange(BILLION)] if isinstance(farthest, str) else sorted(bounds_near(rng, farthest)):
         (place / "claim.json").write_text(json.dumps(changed(claim, bound_ns=bound_ns)))
         status, text, err = run([PROGRAM, "settle", place / "claim.json", file])
@@ -119,6 +137,7 @@ def together(kinds: list[Counter[str]]) -> None:
     """Each answer is met, by covers too, and few claims stay open."""
     found = sum(kinds, Counter[str]())
     print(f"{found.total()} claims: {dict(found)}")
-    for kind in ("shown", "shown by covers", "refuted", "nothing fits", "no evidence"):
+    for kind in ("shown", "shown by covers", "refuted", "nothing fits", "no evidence", "hull", "hull empty",
+                 "hull unbounded"):
         count(f"something is {kind}", "" if found[kind] else "never")
     count("few stay open", "" if 20 * found["open"] < found.total() else f"{found['open']} do")

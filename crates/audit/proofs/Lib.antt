@@ -4,6 +4,7 @@ pub mod Capture
 pub mod LeastShowing
 pub mod SettlementShowing
 pub mod SettlementText
+mod CoversShowing
 pub mod EnvelopeShowing
 pub mod RunSteps
 pub mod Status

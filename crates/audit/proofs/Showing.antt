@@ -131,14 +131,14 @@ pub finding_shown : {kind : SecondKind} {said : SecondData} (laws : BytesLaws) (
 finding_shown laws e finding claim second capture are found = search (rules, of_inputs, finding_of)
 
 pub nothing_shown : (claim capture : Option (List ℕ)) → IfSome claim (λ b. IfSome capture (IsFindingFrom no_finding b))
-nothing_shown (Some b) (Some f) = record { settled = inl refl; least = tt; fits = tt }
+nothing_shown (Some b) (Some f) = record { settled = inl refl; least = tt; fits = tt; over = tt }
 nothing_shown _ _ = tt
 
 -- ---- what is told
 
 -- nothing was looked for, and nothing is said
 pub nothing_found : (e : EvidenceData) → IsFindingOf e no_finding
-nothing_found e = record { settled = tt; least = tt; fits = tt }
+nothing_found e = record { settled = tt; least = tt; fits = tt; over = tt }
 
 -- memory was refused before anything was found
 pub memory_unfound : (question : QuestionData) (inputs : InputsData) → IsUnfound question inputs faults.Memory

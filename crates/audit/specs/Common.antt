@@ -52,6 +52,7 @@ pub use Rattle.cover_checker.specs.Traceability.{IsTraceable as IsTraceableToAll
 pub use Rattle.cover_checker.specs.Verdict.{IsVerdict as IsCoverVerdict}
 unfoldable pub use Rattle.cover_checker.specs.VerdictTest.{verdict_of as cover_verdict_of}
 pub use Rattle.cover_checker.specs.declared.verdict.CoverVerdict.{CoverVerdict}
+pub use Rattle.cover_finder.specs.Hull.{HoldsError as HoldsErrorByCovers}
 pub use Rattle.cover_finder.specs.Answer.{AnswerData, IsShownByCoversAlone, answer_data, of_finder, shown_by_covers}
 pub use Rattle.era_unfold.specs.Nanoseconds.{nanoseconds_per_second}
 pub use Rattle.era_unfold.specs.Ratio.{IsCeiling, IsFloor, ceiling_of, floor_of}
@@ -147,7 +148,7 @@ pub use Rattle.true_time.specs.Order.{HoldsOrderOfOne, IsShort, IsSo, order_of, 
 pub use Rattle.true_time.specs.OrderLine.{order_text}
 pub use Rattle.true_time.specs.ReadingLine.{readings_text}
 pub use Rattle.true_time.specs.TrueText.{true_text}
-pub use Rattle.true_time.specs.TrueTime.{HoldsTrueTime, hull_of, parts_of, reading_over}
+pub use Rattle.true_time.specs.TrueTime.{HoldsTrueTime, IsThen, hull_of, parts_of, reading_over}
 pub use Rattle.true_time.specs.When.{HoldsWhen, IsDuring, when_at}
 pub use Rattle.true_time.specs.declared.order.Order.{Order}
 pub use Rattle.true_time.specs.declared.when.When.{When}

@@ -6,6 +6,7 @@ pub mod Second
 pub mod At
 pub mod Reading
 pub mod Readings
+pub mod ByCovers
 pub mod Order
 pub mod Check
 pub mod Find

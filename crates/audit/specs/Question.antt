@@ -5,19 +5,21 @@ use Rattle.audit.specs.Common.{FeedState, AnswerData, LeastCarried, FindFault, S
 use Rattle.finder.specs.declared.fault.FindFault.TheVariants.{Memory}
 use Rattle.audit.specs.CaptureInput.{capture_read}
 use Rattle.audit.specs.Evidence.{EvidenceData}
+use Rattle.audit.specs.declared.question.by_covers.HullOver.{HullOver}
 use Rattle.audit.specs.Second.{SecondData, SecondKind, second_read}
 
 -- What was found that has no definition of its own: what settles a claim, or why it isn't known;
--- the least bound that a certificate carries, and whether any course of events fits, if these were
--- looked for. `specs/Finding` says what it shows.
+-- the least bound that a certificate carries, whether any course of events fits, and the hull over a
+-- reading by covers, if these were looked for. `specs/Finding` says what it shows.
 pub record Finding : Type 0 where
   pub settled : Result AnswerData FindFault
   pub least : Option (Option LeastCarried)
   pub fits : Option Bool
+  pub over : Option HullOver
 
 -- nothing was found, for want of memory or because nothing was looked for
 abbrev pub no_finding : Finding
-no_finding = record { settled = Err Memory; least = None; fits = None }
+no_finding = record { settled = Err Memory; least = None; fits = None; over = None }
 
 pub record QuestionData : Type 1 where
   -- the report on what the second input says and on evidence, in a style: a person is told of a

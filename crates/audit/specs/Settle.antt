@@ -10,7 +10,7 @@ use Rattle.audit.specs.Find.{find_run_fault_of}
 use Rattle.audit.specs.Headline.{IsShown}
 use Rattle.audit.specs.HeadlineByCovers.{IsShownByCovers}
 use Rattle.audit.specs.Refute.{AreContested, IsContestedOf}
-use Rattle.audit.specs.Question.{Finding, QuestionData}
+use Rattle.audit.specs.Question.{Finding, QuestionData, no_finding}
 use Rattle.audit.specs.declared.question.settle.Settlement.{Settlement}
 
 -- for a program: a certificate's or a refutation's compact text and a line feed, or lines
@@ -89,7 +89,7 @@ settle_report style about finding e (Err fault) = refused (find_run_fault_of fau
 -- what the report is on
 abbrev pub finding_of : Settlement → Finding
 finding_of found =
-    record { settled = Ok (answer_data found.answer); least = found.least; fits = None }
+    record no_finding { settled = Ok (answer_data found.answer); least = found.least }
 
 -- ---- what a finding shows of evidence
 

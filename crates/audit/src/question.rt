@@ -13,6 +13,7 @@ ghost use Rattle.audit.specs.Report.{IsUnfound, Tells, inputs_data};
 ghost use Rattle.audit.specs.Request.{IsFoundFor, finding_in, question_of};
 
 mod at;
+mod by_covers;
 mod check;
 mod envelope;
 mod find;
@@ -26,6 +27,8 @@ mod settle;
 
 use crate::evidence::Evidence;
 pub use crate::question::at::At;
+pub use crate::question::by_covers::AtByCovers;
+use crate::question::by_covers::HullOver;
 pub use crate::question::check::Check;
 use crate::question::envelope::EnvelopeFinding;
 pub use crate::question::find::Find;
@@ -109,6 +112,8 @@ pub enum Request {
     At(At),
     /// What does each server say about the clock while it shows a reading, and when was that?
     Reading(AtReading),
+    /// How far off may the clock have been while it showed a reading, by covers, and when was that?
+    ByCovers(AtByCovers),
     /// Is the claim shown, refuted, fitted by no course of events, or does it stay open? Nothing is
     /// told about the inputs.
     Settle,
@@ -135,6 +140,8 @@ pub enum RequestFinding {
     Search(Found),
     /// The hulls.
     Envelope(EnvelopeFinding),
+    /// The hull over a reading.
+    Over(HullOver),
 }
 
 impl Question for Request {
@@ -169,6 +176,10 @@ impl Question for Request {
                 let found = envelope.find(alloc, style, second, evidence)?;
                 Ok(RequestFinding::Envelope(found))
             }
+            Request::ByCovers(asked) => {
+                let found = asked.find(alloc, style, second, evidence)?;
+                Ok(RequestFinding::Over(found))
+            }
             _ => Ok(RequestFinding::Nothing),
         }
     }
@@ -202,6 +213,9 @@ impl Question for Request {
             }
             (Request::Envelope(envelope), RequestFinding::Envelope(found)) => {
                 envelope.tell(alloc, style, second, evidence, found, out)
+            }
+            (Request::ByCovers(asked), RequestFinding::Over(found)) => {
+                asked.tell(alloc, style, second, evidence, found, out)
             }
             _ => unreachable!(),
         }

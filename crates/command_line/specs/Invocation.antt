@@ -99,6 +99,14 @@ HasNoTime rows = AreNotOne (first_of (codes "TIME") rows) (first_of (codes "time
 abbrev pub no_time_text : Text
 no_time_text = codes "error: at takes a TIME, or --times FILE\n"
 
+-- a file of readings is asked about by covers
+abbrev pub HasTimesByCovers : List Row → Type 0
+HasTimesByCovers rows =
+    IsSome (first_of (codes "times") rows) × IsFlag (codes "covers") rows true
+
+abbrev pub times_by_covers_text : Text
+times_by_covers_text = codes "error: --covers goes with a TIME, and not with --times\n"
+
 -- whether a command has this name
 abbrev pub is_command : Text → Bool
 is_command name = bytes_eq name (codes "list") || bytes_eq name (codes "samples")
@@ -113,22 +121,30 @@ HasNoStep rows = IfSome (one_of (codes "step") rows) (λ text.
     → digits_value 10 (without_leading_plus text) ≤ 86400 → ⊥)
 
 -- A command that cuts pieces is refused if it's given no length for them, and one that asks about
--- moments if it has none, or two kinds; and so is a name that is no command's.
+-- moments if it has none, or two kinds, or a file of them by covers; and so is a name that is no
+-- command's.
 abbrev pub IsRefusable : Text → List Row → Text → Type 0
 IsRefusable name rows told =
     ((is_command name ≡ false) × (told ≡ codes "no command\n"))
     ⊎ (((name ≡ codes "find") ⊎ (name ≡ codes "envelope")) × HasNoStep rows
     × (told ≡ codes "no step\n"))
     ⊎ ((name ≡ codes "at") × HasNoTime rows × (told ≡ no_time_text))
+    ⊎ ((name ≡ codes "at") × HasTimesByCovers rows × (told ≡ times_by_covers_text))
 
 -- what a command without a second input asks
 abbrev pub IsRequest : Text → List Row → Request → Type 0
 IsRequest name rows requests.Samples = name ≡ codes "samples"
 IsRequest name rows (requests.At at) = (name ≡ codes "at")
-    × (first_of (codes "times") rows ≡ None) × (time_given rows ≡ Some at.unix_second)
+    × (first_of (codes "times") rows ≡ None) × IsFlag (codes "covers") rows false
+    × (time_given rows ≡ Some at.unix_second)
 IsRequest name rows (requests.Reading reading) =
-    (name ≡ codes "at") × (first_of (codes "times") rows ≡ None) × (time_given rows ≡ None)
+    (name ≡ codes "at") × (first_of (codes "times") rows ≡ None)
+    × IsFlag (codes "covers") rows false × (time_given rows ≡ None)
     × (ticks_given (codes "TIME") rows ≡ Some reading)
+IsRequest name rows (requests.ByCovers asked) =
+    (name ≡ codes "at") × (first_of (codes "times") rows ≡ None)
+    × IsFlag (codes "covers") rows true
+    × (ticks_given (codes "TIME") rows ≡ Some asked.reading)
 IsRequest name rows requests.Settle = name ≡ codes "settle"
 IsRequest name rows (requests.Find find) =
     (name ≡ codes "find") × IsFlag (codes "refutation") rows false
@@ -154,6 +170,7 @@ IsJudgement name rows (judgements.Refute drift) =
     (name ≡ codes "refute") × IsFlag (codes "drift") rows drift
 IsJudgement name rows judgements.Readings = (name ≡ codes "at")
     × (first_of (codes "TIME") rows ≡ None) × IsSome (first_of (codes "times") rows)
+    × IsFlag (codes "covers") rows false
 
 abbrev pub second_operand : Judgement → Text
 second_operand judgements.Check = codes "CERTIFICATE"
@@ -174,6 +191,12 @@ HasNoMoment rows shown =
     (first_of (codes "times") rows ≡ None) × (time_given rows ≡ None)
     × (ticks_given (codes "TIME") rows ≡ None) × IsShownTime (codes "TIME") rows shown
 
+-- by covers, a moment isn't written as a reading
+abbrev pub HasNoReadingByCovers : List Row → Option (String Global) → Type 0
+HasNoReadingByCovers rows shown =
+    (first_of (codes "times") rows ≡ None) × IsFlag (codes "covers") rows true
+    × (ticks_given (codes "TIME") rows ≡ None) × IsShownTime (codes "TIME") rows shown
+
 -- of two readings the first isn't written as one, or the second alone
 abbrev pub HasNoReading : List Row → Option (String Global) → Type 0
 HasNoReading rows shown =
@@ -190,6 +213,7 @@ IsCalled name rows (calls.Judge judgement paths) = IsJudgement name rows judgeme
 IsCalled name rows (calls.Order first second) =
     (name ≡ codes "order") × AreOrdered rows first second
 IsCalled name rows (calls.RefuseTime shown) = ((name ≡ codes "at") × HasNoMoment rows shown)
+    ⊎ ((name ≡ codes "at") × HasNoReadingByCovers rows shown)
     ⊎ ((name ≡ codes "order") × HasNoReading rows shown)
 IsCalled name rows (calls.Refuse text) = IsRefusable name rows (string_bytes text)
 IsCalled name rows (calls.Show text) = ⊥

@@ -58,7 +58,7 @@ samples = on_claim (codes "samples") []
 
 abbrev pub at : Shape
 at = on_claim (codes "at")
-    (optional (codes "TIME") ∷ valued (codes "times") ∷ sums ∷ [])
+    (optional (codes "TIME") ∷ valued (codes "times") ∷ flag (codes "covers") ∷ sums ∷ [])
 
 -- a reading of a clock, and one of another
 abbrev pub order : Shape

@@ -3,7 +3,7 @@
 ghost use Rattle.std.specs.Prelude.{IfOk};
 ghost use Rattle.command_table.specs.Commands as table;
 
-use crate::argument::{optional, valued};
+use crate::argument::{flag, optional, valued};
 use crate::evidence::{evidence_command, sums_option};
 use clap::Command;
 use std::alloc::{AllocError, Global};
@@ -16,7 +16,9 @@ Prints:   a line for each server that has a sample, `SERVER LO HI`: the clock's 
           seconds, as 1795329969.5: it stands for as long as its last digit does, the lines are of
           that time, and `true EARLIEST LATEST` ends them, in ticks since 1970: true time lay
           between the two. With --times for each line, such a TIME, `reading TIME hull LO HI true
-          EARLIEST LATEST`. With --human milliseconds, in columns under a heading
+          EARLIEST LATEST`. With --covers the lines `hull` and `true` alone, by covers: narrower
+          where a server is caught elsewhere; any TIME stands for as long as its last digit does.
+          With --human milliseconds, in columns under a heading
 Status:   0 done; 2 an input is refused; 3 out of memory; 4 a file or the output failed; 5 the
           command line is refused
 Example:  ntpaudit at claim.json recording.pcap 2026-11-22T06:46:09Z
@@ -28,9 +30,11 @@ pub(crate) fn declaration<'a>(alloc: Global) -> Result<Command<'a>, AllocError>
 {
     let time = "The moment, as 2026-11-22T06:46:09Z; it may lie outside the claim's span";
     let times = "Tell of each line of FILE, or of standard input, -, when the clock showed it";
+    let covers = "Say how far off the clock can have been, by covers: the exact hull, if slower";
     let about = "Print what a capture says about the clock at a moment, or at many";
     evidence_command(alloc, "at", about, HELP)?
         .arg(optional(alloc, "TIME", time))?
         .arg(valued(alloc, "times", "FILE", times))?
+        .arg(flag(alloc, "covers", covers))?
         .arg(sums_option(alloc))
 }

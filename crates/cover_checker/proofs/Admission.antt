@@ -14,7 +14,8 @@ use Rattle.checker.proofs.Separation.{passes, group_passes, count_push, counted,
 use Rattle.cover_checker.proofs.Common.{◌≡◌, ℕ, zero, suc, ◌+◌, ◌-◌, ◌*◌, ◌<◌, ◌≤◌, ℤ, pos, neg_ℤ, ◌-ℤ◌, ◌*ℤ◌, ◌≤ℤ◌, ◌<ℤ◌, unsigned_abs, ◌⊎◌, inl, inr, ⊎_elim, ◌↔◌, Bool, true, false, cond, not, ◌&&◌, ◌||◌, ◌==◌, List, Some, length, count_by, refl, sym, ap, ◌∙◌, subst, arith, ints, clamps, nat_tests, by_lt_z, by_test, and_parts, and_from, cond-true, cond-false, slice_get, slice_index, list_any, int_max, All-slice_get, CaseHolds, ClaimData, CoverCertificateData, Exchange, IsAccepted, IsInWindow, Mark, Part, ShowBound, Stretch, ahead, begin_of, billion, fall, group_intervals, group_of, high_mark, high_over, last_end, low_mark, low_over, names, numbers_below, part_of, rise, size_of, widening}
 use Rattle.era_unfold.specs.Ratio.{IsCeiling, ceiling_of}
 use Rattle.cover_checker.proofs.Counts.{fewer_outside, no_larger}
-use Rattle.cover_checker.proofs.Entries.{IsSaid, all_said, each_heard}
+use Rattle.cover_checker.specs.Hull.{IsSaid}
+use Rattle.cover_checker.proofs.Entries.{all_said, each_heard}
 use Rattle.cover_checker.proofs.Pieces.{held_case}
 use Rattle.cover_checker.proofs.Stretches.{HasCeilings}
 use Rattle.cover_checker.specs.Admission.{Admit, BoundSpan, HighLeavesRoom, LowLeavesRoom, MayFallBy, MayRiseBy}

@@ -19,7 +19,7 @@ pub use Rattle.checker.specs.Course.{ArrivesBeforeStamp, ComesInOrder, Course, F
 pub use Rattle.checker.specs.Course.{LeavesAfterStamp}
 pub use Rattle.checker.specs.Groups.{false_group_count, holds_false}
 pub use Rattle.checker.specs.Stretch.{begin_of, last_end, stretches_from}
-pub use Rattle.checker.specs.Traceability.{IsObservedIn, IsWithin}
+pub use Rattle.checker.specs.Traceability.{IsInHull, IsObservedIn, IsWithin}
 pub use Rattle.claim_file.specs.Claim.{ClaimData, IsLawful}
 pub use Rattle.error_marks.specs.Mark.{AreCompatible, IsPossible, high_mark, low_mark}
 pub use Rattle.error_marks.specs.declared.mark.Mark.{Mark}

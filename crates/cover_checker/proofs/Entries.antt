@@ -1,5 +1,6 @@
 -- What the entries of a piece say, each by itself.
 use Rattle.cover_checker.proofs.Common.{◌≡◌, ◌<◌, ℕ, zero, suc, length, ap, All-slice_get, IsLawfulExchange, Bool, true, false, cond, not, List, [], ◌∷◌, ◌++◌, Option, None, Some, Result, Ok, Err, refl, subst, arith, nat_tests, All, All-nil, All-push, slice_get, ◌==◌, list_any, ClaimData, Exchange, Part, PieceWhy, Stretch, LeftOut, Of, group_of, part_from, part_of, parts_after, unless_refused}
+use Rattle.cover_checker.specs.Hull.{IsSaid}
 use Rattle.checker.specs.declared.verdict.Why.TheVariants.{MixedServers, RepeatedServer}
 
 -- ---- lists
@@ -19,21 +20,14 @@ put_there (z ∷ xs) y = put_there xs y
 -- ---- entries
 
 module _ (claim : ClaimData) (xs : List Exchange) (out : ℕ → Bool) (stretch : Stretch) where
-  -- a part is what an entry says, of one server whose group isn't left out
-  pub record IsSaid (entry : ℕ × ℕ) (part : Part) : Type 0 where
-    pub low : Exchange
-    pub high : Exchange
-    pub low_stands : slice_get xs entry.0 ≡ Some low
-    pub high_stands : slice_get xs entry.1 ≡ Some high
-    pub one_server : low.server ≡ high.server
-    pub stays : out (group_of claim low) ≡ false
-    pub is : part_of claim stretch low high ≡ part
+  abbrev Says : ℕ × ℕ → Part → Type 0
+  Says entry part = IsSaid claim xs out stretch entry part
 
   tested : (entry : ℕ × ℕ) (x y : Exchange) (mixed repeated left : Bool) (part : Part)
       → slice_get xs entry.0 ≡ Some x → slice_get xs entry.1 ≡ Some y
       → not (x.server == y.server) ≡ mixed → out (group_of claim x) ≡ left
       → cond mixed (Err (Of MixedServers)) (cond repeated (Err (Of RepeatedServer))
-      (cond left (Err LeftOut) (Ok (part_of claim stretch x y)))) ≡ Ok part → IsSaid entry part
+      (cond left (Err LeftOut) (Ok (part_of claim stretch x y)))) ≡ Ok part → Says entry part
   tested entry x y true repeated left part at_x at_y one in' e = absurd cc
   tested entry x y false true left part at_x at_y one in' e = absurd cc
   tested entry x y false false true part at_x at_y one in' e = absurd cc
@@ -49,7 +43,7 @@ module _ (claim : ClaimData) (xs : List Exchange) (out : ℕ → Bool) (stretch 
 
   said : (earlier : List Part) (entry : ℕ × ℕ) (low high : Option Exchange) (part : Part)
       → slice_get xs entry.0 ≡ low → slice_get xs entry.1 ≡ high
-      → part_from claim out stretch earlier low high ≡ Ok part → IsSaid entry part
+      → part_from claim out stretch earlier low high ≡ Ok part → Says entry part
   said earlier entry None high part at_low at_high e = absurd cc
   said earlier entry (Some x) None part at_low at_high e = absurd cc
   said earlier entry (Some x) (Some y) part at_low at_high e =
@@ -67,7 +61,7 @@ module _ (claim : ClaimData) (xs : List Exchange) (out : ℕ → Bool) (stretch 
   -- what holds of whatever an entry says holds of all that the entries say
   module _ (P : Part → Type 0) where
     after : (earlier : List Part) (entries : List (ℕ × ℕ)) (parts : List Part)
-        → ((j : ℕ) (entry : ℕ × ℕ) (part : Part) → slice_get entries j ≡ Some entry → IsSaid entry part → P part)
+        → ((j : ℕ) (entry : ℕ × ℕ) (part : Part) → slice_get entries j ≡ Some entry → Says entry part → P part)
         → All P earlier → parts_after claim xs out stretch earlier entries ≡ Ok parts → All P parts
     after earlier [] parts each so_far e = (let same : earlier ≡ parts = cc in subst (All P) same so_far)
     after earlier (entry ∷ entries) parts each so_far e =
@@ -79,7 +73,7 @@ module _ (claim : ClaimData) (xs : List Exchange) (out : ℕ → Bool) (stretch 
         e
 
     pub all_said : (entries : List (ℕ × ℕ)) (parts : List Part)
-        → ((j : ℕ) (entry : ℕ × ℕ) (part : Part) → slice_get entries j ≡ Some entry → IsSaid entry part → P part)
+        → ((j : ℕ) (entry : ℕ × ℕ) (part : Part) → slice_get entries j ≡ Some entry → Says entry part → P part)
         → parts_after claim xs out stretch [] entries ≡ Ok parts → All P parts
     all_said entries parts each e = after [] entries parts each (All-nil P) e
 
@@ -96,7 +90,7 @@ module _ (claim : ClaimData) (xs : List Exchange) (out : ℕ → Bool) (stretch 
 
   -- one of these parts is what an entry says
   abbrev pub IsHeard : List Part → ℕ × ℕ → Type 0
-  IsHeard parts entry = (i : ℕ) × (part : Part) × (slice_get parts i ≡ Some part) × IsSaid entry part
+  IsHeard parts entry = (i : ℕ) × (part : Part) × (slice_get parts i ≡ Some part) × Says entry part
 
   heard_after : (earlier : List Part) (entries : List (ℕ × ℕ)) (parts : List Part) (j : ℕ) (entry : ℕ × ℕ)
       → slice_get entries j ≡ Some entry → parts_after claim xs out stretch earlier entries ≡ Ok parts
@@ -110,7 +104,7 @@ module _ (claim : ClaimData) (xs : List Exchange) (out : ℕ → Bool) (stretch 
         length earlier,
         part,
         kept (earlier ++ part ∷ []) entries parts (length earlier) part (put_there earlier part) rest,
-        subst (λ (it : ℕ × ℕ). IsSaid it part) same (said earlier first _ _ part refl refl is),
+        subst (λ (it : ℕ × ℕ). Says it part) same (said earlier first _ _ part refl refl is),
       )) e
   heard_after earlier (first ∷ entries) parts (suc j) entry at e =
       step (IsHeard parts entry) earlier entries parts

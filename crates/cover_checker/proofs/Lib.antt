@@ -5,6 +5,7 @@ mod Stretches
 mod Named
 mod Pieces
 mod Theorem
+mod WholeHull
 pub mod Admission
 mod Acceptance
 mod Verdicts

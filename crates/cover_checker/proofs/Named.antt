@@ -91,3 +91,8 @@ module _ (claim : ClaimData) (xs : List Exchange) (Named : ℕ → Type 0) (cour
     ordered = λ k x named at true'. fits.ordered k x at true';
     within_root_distance = λ k x named at true'. fits.within_root_distance k x at true';
   }
+
+  -- its wrong groups are those that hold a false server
+  pub wrong_is : (group : ℕ) → fits_named.few_false.is_wrong group ≡ holds_false claim.groups course.is_false group
+  unfolding fits_named
+  wrong_is group = refl

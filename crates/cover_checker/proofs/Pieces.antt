@@ -1,11 +1,13 @@
 -- Entries, conflicts and cases of an accepted certificate, in a course that fits what it names.
-use Rattle.cover_checker.proofs.Common.{◌≡◌, ℕ, suc, ◌<◌, ℤ, pos, neg_ℤ, ◌*ℤ◌, ◌≤ℤ◌, ◌-◌, unsigned_abs, inl, inr, ⊎_elim, Bool, true, false, not, ◌&&◌, ◌||◌, List, [], ◌∷◌, Some, length, refl, sym, ap, ◌∙◌, subst, arith, ints, or_parts, slice_get, slice_index, All, All-slice_get, by_test, times-add, times_le, CaseData, ClaimData, IsLawful, Course, Exchange, IsLawfulExchange, Part, Stretch, Bounded, HoldsFraction, IsAdmissibleFraction, IsObservedIn, IsWithin, LieWithin, error_of, FitsNamed, IsNamedMoment, HoldsCase, HoldsEnd, IsConflict, ShowBound, group_intervals, group_of, high_mark, low_mark, names, part_of, size_of}
+use Rattle.cover_checker.proofs.Common.{◌≡◌, ℕ, suc, ◌<◌, ℤ, pos, neg_ℤ, ◌*ℤ◌, ◌≤ℤ◌, ◌-◌, unsigned_abs, inl, inr, ⊎_elim, Bool, true, false, not, ◌&&◌, ◌||◌, List, [], ◌∷◌, Some, length, refl, sym, ap, ◌∙◌, subst, arith, ints, or_parts, slice_get, slice_index, All, All-slice_get, by_test, times-add, times_le, CaseData, ClaimData, IsLawful, Course, Exchange, IsLawfulExchange, Part, Stretch, Bounded, HoldsFraction, IsHull, IsInHull, IsObservedIn, IsWithin, LieWithin, error_of, FitsNamed, IsNamedMoment, HoldsCase, HoldsEnd, IsConflict, ShowBound, group_intervals, group_of, high_mark, low_mark, names, part_of, size_of}
+use Rattle.intersection.specs.declared.kinds.Hull.{Hull}
 use Rattle.checker.proofs.Counting.{few_leave_it_out}
 use Rattle.feasibility.proofs.Covers.{few_by_cover}
 use Rattle.feasibility.proofs.KeptMarks.{kept_are_compatible}
 use Rattle.intersection.proofs.Fractions.{hull_is_fine}
 use Rattle.cover_checker.proofs.Counts.{fewer_outside}
-use Rattle.cover_checker.proofs.Entries.{IsSaid, all_said}
+use Rattle.cover_checker.specs.Hull.{IsSaid}
+use Rattle.cover_checker.proofs.Entries.{all_said}
 use Rattle.cover_checker.proofs.Named.{is_reply, is_request, keeps_high, keeps_low, possible, true_if_right}
 use Rattle.cover_checker.proofs.Stretches.{HasCeilings, high_stays, low_stays}
 
@@ -73,11 +75,11 @@ module _ (ceilings : HasCeilings) (claim : ClaimData) (lawful : IsLawful claim) 
 
   -- ---- an entry
 
-  module _ (case : CaseData) (stretch : Stretch)
+  module _ (out : ℕ → Bool) (stretch : Stretch)
       (observed : IsObservedIn course stretch.begin stretch.end) where
-    -- the group is wrong, and the case doesn't name it
+    -- the group is wrong, and isn't left out
     abbrev wrong_besides : ℕ → Bool
-    wrong_besides group = wrong group && not (names case group)
+    wrong_besides group = wrong group && not (out group)
 
     abbrev counts : ℕ → Bool
     counts server = wrong_besides (slice_index claim.groups server)
@@ -106,7 +108,7 @@ module _ (ceilings : HasCeilings) (claim : ClaimData) (lawful : IsLawful claim) 
               (keeps_high fits j y named_j at_j true_y),
         )
 
-    module _ (entry : ℕ × ℕ) (part : Part) (said : IsSaid claim xs (names case) stretch entry part)
+    module _ (entry : ℕ × ℕ) (part : Part) (said : IsSaid claim xs out stretch entry part)
         (named_low : Named entry.0) (named_high : Named entry.1) where
       server_is : part.server ≡ said.low.server
       server_is = ap (λ (p : Part). p.server) (sym said.is)
@@ -121,7 +123,7 @@ module _ (ceilings : HasCeilings) (claim : ClaimData) (lawful : IsLawful claim) 
       pub holds : counts part.server ≡ false → Holds part
       holds uncounted =
           let right : wrong (group_of claim said.low) ≡ false =
-          right_if (wrong (group_of claim said.low)) (names case (group_of claim said.low))
+          right_if (wrong (group_of claim said.low)) (out (group_of claim said.low))
           (subst (λ (s : ℕ). wrong_besides (slice_index claim.groups s) ≡ false) server_is uncounted) said.stays in
           let right_high : wrong (group_of claim said.high) ≡ false =
           subst (λ (s : ℕ). wrong (slice_index claim.groups s) ≡ false) said.one_server right in
@@ -130,25 +132,33 @@ module _ (ceilings : HasCeilings) (claim : ClaimData) (lawful : IsLawful claim) 
           (true_if_right fits entry.0 said.low named_low said.low_stands right)
           (true_if_right fits entry.1 said.high named_high said.high_stands right_high))
 
-    -- ---- a piece
+    -- ---- a hull
 
-    pub within : (entries : List (ℕ × ℕ)) → LieWithin (names case) wrong
-        → ((j : ℕ) (entry : ℕ × ℕ) → slice_get entries j ≡ Some entry → Named entry.0 × Named entry.1)
-        → ShowBound claim xs (names case) stretch entries → IsWithin course claim.bound
-    within entries false' named shown =
-        let list = group_intervals claim.groups shown.parts in
+    pub held : (parts : List Part) → LieWithin out wrong
+        → All (λ part. part.server < length claim.groups) parts
+        → All (λ part. counts part.server ≡ false → Holds part) parts → (hull : Hull)
+        → IsHull (group_intervals claim.groups parts) (claim.false_max - size_of claim out) hull → IsInHull course hull
+    held parts false' all_listed all_hold hull is =
         let e = error_of course.observation in
         let n = course.fineness in
-        let few = fewer_outside claim wrong (names case) false' fits.few_false.few in
-        let none_out : IsAdmissibleFraction list (claim.false_max - size_of claim (names case)) e n =
-        few_leave_it_out claim.groups shown.parts counts e n
-        (all_said claim xs (names case) stretch (λ part. part.server < length claim.groups) entries shown.parts
+        let few = fewer_outside claim wrong out false' fits.few_false.few in
+        hull_is_fine (group_intervals claim.groups parts) (claim.false_max - size_of claim out) hull e n
+        fits.some_fineness
+        (few_leave_it_out claim.groups parts counts e n all_listed all_hold (claim.false_max - size_of claim out)
+        (omega (arith, few_by_cover claim wrong_besides)))
+        is
+
+    -- ---- a piece
+
+    pub within : (entries : List (ℕ × ℕ)) → LieWithin out wrong
+        → ((j : ℕ) (entry : ℕ × ℕ) → slice_get entries j ≡ Some entry → Named entry.0 × Named entry.1)
+        → ShowBound claim xs out stretch entries → IsWithin course claim.bound
+    within entries false' named shown =
+        let ends = held shown.parts false'
+        (all_said claim xs out stretch (λ part. part.server < length claim.groups) entries shown.parts
         (λ j entry part at said. listed entry part said (named j entry at).0 (named j entry at).1) shown.said)
-        (all_said claim xs (names case) stretch (λ part. counts part.server ≡ false → HoldsFraction part.interval e n)
-        entries shown.parts
+        (all_said claim xs out stretch (λ part. counts part.server ≡ false → Holds part) entries shown.parts
         (λ j entry part at said. holds entry part said (named j entry at).0 (named j entry at).1) shown.said)
-        (claim.false_max - size_of claim (names case))
-        (omega (arith, few_by_cover claim wrong_besides)) in
-        let ends = hull_is_fine list (claim.false_max - size_of claim (names case)) (Bounded shown.lo shown.hi) e n
-        fits.some_fineness none_out shown.hull in
-        inside claim.bound n shown.lo shown.hi e ends.0 ends.1 shown.above shown.below
+        (Bounded shown.lo shown.hi) shown.hull in
+        inside claim.bound course.fineness shown.lo shown.hi (error_of course.observation) ends.0 ends.1 shown.above
+        shown.below

@@ -1,5 +1,5 @@
 -- Why an accepted certificate by covers can be relied on.
-use Rattle.cover_checker.proofs.Common.{◌≡◌, ℕ, ℤ, pos, ◌⊎◌, inl, inr, List, Some, length, get_or, refl, sym, subst, slice_get, slice_get-get_or, All, All-slice_get, CaseHolds, ClaimData, CoverCertificateData, IsLawful, Exchange, IsLawfulExchange, HoldsEnd, IsAccepted, IsNamed, IsObservedIn, IsTraceable, IsTraceableByCovers, begin_of, last_end}
+use Rattle.cover_checker.proofs.Common.{◌≡◌, ℕ, ℤ, pos, ◌⊎◌, inl, inr, List, Some, length, get_or, refl, sym, subst, slice_get, slice_get-get_or, All, All-slice_get, CaseHolds, ClaimData, CoverCertificateData, IsLawful, Exchange, IsLawfulExchange, HoldsEnd, IsAccepted, IsNamed, IsObservedIn, IsTraceable, IsTraceableByCovers, begin_of, last_end, names}
 use Rattle.certificate.specs.Refutation.{RefutationData}
 use Rattle.checker.proofs.Cover.{all_covered, piece_at}
 use Rattle.feasibility.specs.DriftRefutation.{IsRefutedWithDrift}
@@ -46,7 +46,7 @@ module _ (ceilings : HasCeilings) (claim : ClaimData) (xs : List Exchange) (cert
         entry_stands = at;
         is_of_it = is;
       }) in
-      within ceilings claim lawful xs each course fits case
+      within ceilings claim lawful xs each course fits (names case)
       (record { begin = begin; end = pos found.0.upto }) found.2 entries held.3
       (λ j entry at. (in_piece j entry.0 entry at (inl refl), in_piece j entry.1 entry at (inr refl)))
       (holds.each covered.0 found.0 found.1)

@@ -6,7 +6,8 @@ pub use Rattle.certificate.specs.Refutation.{RefutationData}
 pub use Rattle.checker.specs.Course.{ArrivesBeforeStamp, ComesInOrder, Course, Fits, KeepsRootDistance, LeavesAfterStamp}
 pub use Rattle.checker.specs.Refutation.{IsRefuted}
 pub use Rattle.checker.specs.Stretch.{begin_of, last_end}
-pub use Rattle.checker.specs.Traceability.{IsObservedIn, IsWithin}
+pub use Rattle.checker.specs.Groups.{holds_false}
+pub use Rattle.checker.specs.Traceability.{IsInHull, IsObservedIn, IsWithin}
 pub use Rattle.checker.specs.Verdict.{hull_fault}
 pub use Rattle.checker.specs.declared.verdict.Why.{Why}
 pub use Rattle.checker.specs.declared.verdict.Why.TheVariants.{BadSample, Cut, MixedServers, RepeatedServer, Uncovered}
@@ -24,6 +25,7 @@ pub use Rattle.feasibility.specs.DriftTest.{are_compatible, is_possible}
 pub use Rattle.feasibility.specs.Keeping.{KeepsHigh, KeepsLow}
 pub use Rattle.feasibility.specs.Members.{LieWithin, has, passing}
 pub use Rattle.intersection.specs.Hull.{IsHull}
+pub use Rattle.intersection.specs.declared.kinds.Hull.{Hull}
 pub use Rattle.intersection.specs.declared.kinds.Hull.TheVariants.{Bounded}
 pub use Rattle.intersection.specs.declared.kinds.Interval.{Interval}
 pub use Rattle.pairing.specs.Exchange.{IsLawful}

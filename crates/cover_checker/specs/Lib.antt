@@ -4,6 +4,7 @@ pub mod Conflict
 pub mod CoverSearch
 pub mod Case
 pub mod Entry
+pub mod Hull
 pub mod Acceptance
 pub mod Verdict
 pub mod VerdictTest

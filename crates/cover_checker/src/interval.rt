@@ -84,7 +84,7 @@ pub fn missed_by(drift_ppb: u32, low: Mark, high: Mark) -> i128
 }
 
 /// What two exchanges of a server say: the one by its low mark, the other by its high mark.
-pub(crate) fn part_of(claim: &Claim, stretch: Stretch, low: &Exchange, high: &Exchange) -> Part
+pub fn part_of(claim: &Claim, stretch: Stretch, low: &Exchange, high: &Exchange) -> Part
     requires low { IsLawful (length claim.now.servers.items) low.now }
     requires high { IsLawful (length claim.now.servers.items) high.now }
     requires stretch { IsPiece stretch.begin stretch.end }

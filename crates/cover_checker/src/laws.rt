@@ -1,10 +1,11 @@
 //! What holds of accepted certificates by covers, and why. A law is a function that does nothing:
 //! its contract is the law, for every number.
 
-ghost use Rattle.std.specs.Prelude.{◌≡◌, ℕ, ◌<◌, ◌≤◌, ℤ, pos, ◌*ℤ◌, ◌≤ℤ◌, List, length, All};
-ghost use Rattle.cover_checker.specs.Common.{ClaimData, Course, CoverCertificateData, Exchange, Fits, IsInWindow, IsLawful, IsLawfulClaim, IsRate, IsRefutedWithDrift, KeepsHigh, KeepsLow, DriftsWithin, Mark, Moment, RefutationData, Stretch, error_of};
+ghost use Rattle.std.specs.Prelude.{◌≡◌, Bool, ℕ, ◌-◌, ◌<◌, ◌≤◌, ℤ, pos, ◌*ℤ◌, ◌≤ℤ◌, List, length, All};
+ghost use Rattle.cover_checker.specs.Common.{ClaimData, Course, CoverCertificateData, Exchange, Fits, Hull, IsHull, IsInWindow, IsLawful, IsLawfulClaim, IsRate, IsRefutedWithDrift, KeepsHigh, KeepsLow, DriftsWithin, Mark, Moment, Part, RefutationData, Stretch, error_of, group_intervals, size_of};
 ghost use Rattle.cover_checker.specs.Acceptance.{IsAccepted};
 ghost use Rattle.cover_checker.specs.Admission.{BoundSpan};
+ghost use Rattle.cover_checker.specs.Hull.{HasFalse, HoldsErrorOf, IsSaidBySome};
 ghost use Rattle.cover_checker.specs.Interval.{low_over, high_over};
 ghost use Rattle.cover_checker.specs.NamedFit.{FitsNamed};
 ghost use Rattle.cover_checker.specs.Traceability.{IsNamed, IsTraceable, IsTraceableByCovers, IsVerdictOn};
@@ -47,6 +48,19 @@ pub fn covers_are_traceable()
     ensures all { (claim : ClaimData) (xs : List Exchange) (certificate : CoverCertificateData) →
         IsLawfulClaim claim → All (IsLawful (length claim.servers)) xs →
         IsAccepted claim xs certificate → IsTraceable claim xs }
+{
+    ratios_are_rounded_as_little_as_can_be();
+}
+
+/// Where some groups hold a false server each, the hull of what exchanges of the others say over a
+/// stretch holds the error at every moment whose reading lies there, in every course of events that
+/// fits. As many fewer of the others may hold one.
+pub fn hulls_hold_the_error()
+    ensures { (claim : ClaimData) (xs : List Exchange) (out : ℕ → Bool) (stretch : Stretch)
+        (parts : List Part) (hull : Hull) → IsLawfulClaim claim →
+        All (IsLawful (length claim.servers)) xs → All (IsSaidBySome claim xs out stretch) parts →
+        IsHull (group_intervals claim.groups parts) (claim.false_max - size_of claim out) hull →
+        HoldsErrorOf claim xs stretch (HasFalse claim out) hull }
 {
     ratios_are_rounded_as_little_as_can_be();
 }

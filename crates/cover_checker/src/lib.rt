@@ -32,5 +32,5 @@ mod table;
 mod verdict;
 
 pub use exchange::exchange_named;
-pub use interval::{high_over, low_over, missed_by};
+pub use interval::{high_over, low_over, missed_by, part_of};
 pub use verdict::{CaseWhy, CoverVerdict, PieceWhy, check_covers};

@@ -15,3 +15,15 @@ pub use Rattle.finder.specs.declared.fault.FindFault.TheVariants.{Memory, TooMan
 pub use Rattle.pairing.specs.Exchange.{IsLawful}
 pub use Rattle.pairing.specs.declared.exchange.Exchange.{Exchange}
 pub use Rattle.checker.specs.Traceability.{samples_of}
+pub use Rattle.checker.specs.Course.{Course, Fits}
+pub use Rattle.checker.specs.Groups.{holds_false}
+pub use Rattle.checker.specs.Traceability.{IsInHull, IsObservedIn}
+pub use Rattle.cover_checker.specs.Hull.{HasFalse, HoldsErrorOf, IsSaidBySome}
+pub use Rattle.feasibility.specs.Cover.{size_of}
+pub use Rattle.feasibility.specs.Groups.{HoldsOne, HoldsOneOr64, holds}
+pub use Rattle.feasibility.specs.declared.groups.Groups.{Groups}
+pub use Rattle.intersection.specs.declared.kinds.Hull.{Hull}
+pub use Rattle.intersection.specs.declared.kinds.Hull.TheVariants.{Bounded, Empty, Unbounded}
+pub use Rattle.span_cover.specs.Piece.{IsPiece}
+pub use Rattle.span_cover.specs.declared.part.Part.{Part}
+pub use Rattle.span_cover.specs.declared.stretch.Stretch.{Stretch}

@@ -1,3 +1,4 @@
 pub mod Answer
 pub mod Common
+pub mod Hull
 pub mod Search

@@ -23,6 +23,7 @@
 #![tactic(auto)]
 
 mod answer;
+mod hull;
 mod reach;
 mod refuted;
 mod ridge;
@@ -31,4 +32,5 @@ mod side;
 mod table;
 
 pub use answer::{Answer, settle};
+pub use hull::hull_by_covers;
 pub use search::{Found, find_by_covers};

@@ -1,7 +1,7 @@
 -- What the definitions and contracts of this crate name of others.
 pub use Rattle.checker.specs.Course.{Course, Fits}
 pub use Rattle.checker.specs.Samples.{AreSamplesOf}
-pub use Rattle.checker.specs.Traceability.{HoldsError, IsObservedIn, samples_of}
+pub use Rattle.checker.specs.Traceability.{HoldsError, IsInHull, IsObservedIn, samples_of}
 pub use Rattle.claim_file.specs.Claim.{ClaimData, IsLawful, data_of}
 pub use Rattle.finder.specs.Entry.{best_entries, best_hull, parts_named}
 pub use Rattle.finder.specs.Fewest.{stretch_over}

@@ -1,11 +1,11 @@
 //! What the definitions say of true time. A law is a function that does nothing: its contract is
 //! the law, for every number.
 
-ghost use Rattle.std.specs.Prelude.{ℕ, ℤ, List};
-ghost use Rattle.true_time.specs.Common.{AreSamplesOf, ClaimData, IsLawful, ReadingData, Sample};
+ghost use Rattle.std.specs.Prelude.{ℕ, ℤ, List, pos};
+ghost use Rattle.true_time.specs.Common.{AreSamplesOf, ClaimData, Course, Hull, IsInHull, IsLawful, IsObservedIn, ReadingData, Sample};
 ghost use Rattle.true_time.specs.Order as spec;
 ghost use Rattle.true_time.specs.Order.{HoldsOrderOfOne, IsSo, order_of_one};
-ghost use Rattle.true_time.specs.TrueTime.{HoldsTrueTime, hull_of};
+ghost use Rattle.true_time.specs.TrueTime.{HoldsTrueTime, IsThen, hull_of};
 ghost use Rattle.true_time.specs.When as times;
 ghost use Rattle.true_time.specs.When.{HoldsWhen, IsDuring};
 
@@ -22,6 +22,14 @@ pub fn true_time_lies_between()
 {
     best_hulls_hold_the_error();
 }
+
+/// Whenever the clock shows a reading, true time lies between the two that a hull gives in which the
+/// error lies.
+pub fn errors_tell_true_time()
+    ensures told { (course : Course) (r : ReadingData) (hull : Hull) →
+        IsObservedIn course (pos r.begin) (pos r.end) → IsInHull course hull →
+        IsThen course r hull }
+{}
 
 /// In every course of events that fits, it is then that the clock shows a reading.
 pub fn moments_hold()

@@ -1,12 +1,12 @@
 //! The command `at`.
 
-ghost use Rattle.std.specs.Prelude.{◌≡◌, IfOk, None, codes, is_some};
+ghost use Rattle.std.specs.Prelude.{◌≡◌, IfOk, IsSome, None, codes, false, is_some, true};
 ghost use Rattle.command_line.specs.Common.{first_of};
-ghost use Rattle.command_line.specs.Invocation.{IsCalled, IsShownTime, found_rows, ticks_given, time_given};
+ghost use Rattle.command_line.specs.Invocation.{IsCalled, IsFlag, IsShownTime, found_rows, ticks_given, time_given};
 
 use crate::command::argument::{is_given, operand, value};
 use crate::command::evidence::{ask, judged_paths};
-use audit::{At, AtReading, Request};
+use audit::{At, AtByCovers, AtReading, Request};
 use claim_file::read_time;
 use clap::ArgMatches;
 use program::{Invocation, Judgement};
@@ -53,9 +53,22 @@ fn is_there(words: &ArgMatches, name: &str) -> bool
     value(words, name).is_some()
 }
 
+/// What the words with a TIME call for, by covers.
+fn asked_by_covers(alloc: Global, words: &ArgMatches) -> Result<Invocation, AllocError>
+    requires alone { first_of (codes "times") (found_rows words.now) ≡ None }
+    requires given { IsFlag (codes "covers") (found_rows words.now) true }
+    ensures { IfOk result (IsCalled (codes "at") (found_rows words.now)) }
+{
+    match ticks_of(words, "TIME") {
+        Some(reading) => ask(alloc, Request::ByCovers(AtByCovers { reading }), words),
+        None => Ok(Invocation::RefuseTime(shown_time(alloc, words, "TIME")?)),
+    }
+}
+
 /// What the words with a TIME that isn't written as a claim's times call for.
 fn asked_over(alloc: Global, words: &ArgMatches) -> Result<Invocation, AllocError>
     requires alone { first_of (codes "times") (found_rows words.now) ≡ None }
+    requires without_covers { IsFlag (codes "covers") (found_rows words.now) false }
     requires no_moment { time_given (found_rows words.now) ≡ None }
     ensures { IfOk result (IsCalled (codes "at") (found_rows words.now)) }
 {
@@ -70,10 +83,29 @@ fn asked_at(alloc: Global, words: &ArgMatches) -> Result<Invocation, AllocError>
     requires { first_of (codes "times") (found_rows words.now) ≡ None }
     ensures { IfOk result (IsCalled (codes "at") (found_rows words.now)) }
 {
+    if is_given(words, "covers") {
+        return asked_by_covers(alloc, words);
+    }
     match time_of(words) {
         Some(unix_second) => ask(alloc, Request::At(At { unix_second }), words),
         None => asked_over(alloc, words),
     }
+}
+
+/// What the words with a file of readings call for.
+fn asked_of_file(alloc: Global, words: &ArgMatches) -> Result<Invocation, AllocError>
+    requires alone { first_of (codes "TIME") (found_rows words.now) ≡ None }
+    requires file { IsSome (first_of (codes "times") (found_rows words.now)) }
+    ensures { IfOk result (IsCalled (codes "at") (found_rows words.now)) }
+{
+    if is_given(words, "covers") {
+        return Invocation::refusal(
+            alloc,
+            "error: --covers goes with a TIME, and not with --times\n",
+        );
+    }
+    let paths = judged_paths(alloc, words, "times")?;
+    Ok(Invocation::Judge(Judgement::Readings, paths))
 }
 
 /// What its words call for.
@@ -83,10 +115,7 @@ pub(crate) fn invocation(alloc: Global, words: &ArgMatches) -> Result<Invocation
 {
     match (is_there(words, "TIME"), is_there(words, "times")) {
         (true, false) => asked_at(alloc, words),
-        (false, true) => {
-            let paths = judged_paths(alloc, words, "times")?;
-            Ok(Invocation::Judge(Judgement::Readings, paths))
-        }
+        (false, true) => asked_of_file(alloc, words),
         (true, true) | (false, false) => {
             Invocation::refusal(alloc, "error: at takes a TIME, or --times FILE\n")
         }

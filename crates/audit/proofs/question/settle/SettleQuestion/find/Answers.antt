@@ -1,4 +1,4 @@
-use Rattle.audit.proofs.Common.{Err, Finding, None, inr, refl, answer_data, evidence_data, samples_in, IsAnswerOf, settle_report}
+use Rattle.audit.proofs.Common.{Err, Finding, inr, refl, answer_data, evidence_data, no_finding, samples_in, IsAnswerOf, settle_report}
 use Rattle.audit.proofs.SettlementShowing.{answer_of, fault_found}
 use Rattle.audit.proofs.Showing.{unfound_as}
 use Rattle.audit.proofs.question.settle.SettleQuestion.find.Goals as goal
@@ -18,14 +18,14 @@ returns-in-Ok-least_if-clause-found c =
       named = c.covers_are_traceable.ensures.named e.claim e.collection.exchanges certificate
           c.requires.evidence.claim c.requires.evidence.exchanges.each accepted;
     }) answer settles.answered in
-    record { settled = holds; least = c.in-Ok-least_if.ensures.least; fits = tt }
+    record { settled = holds; least = c.in-Ok-least_if.ensures.least; fits = tt; over = tt }
 
 pub returns-in-Err-clause-fault : goal.returns-in-Err-clause-fault
 returns-in-Err-clause-fault c =
     let e = evidence_data c.args.evidence.now in
     let fault = c.in-Err.fault in
-    let finding : Finding = record { settled = Err fault; least = None; fits = None } in
+    let finding : Finding = record no_finding { settled = Err fault } in
     let settles = rw c.deref.ensures.value at c.in-Err.ensures in
     rw c.run_fault_of.ensures (unfound_as _ _ finding (λ style. settle_report style c.args.self.about.now finding e) _
-    fault (inr refl) (record { settled = fault_found e fault settles.refused; least = tt; fits = tt }) (λ style. refl)
+    fault (inr refl) (record { settled = fault_found e fault settles.refused; least = tt; fits = tt; over = tt }) (λ style. refl)
     (λ style. refl))

@@ -1,0 +1,80 @@
+-- Hulls by covers.
+use Rattle.std.proofs.Common.{◌≡◌, ◌+◌, ◌<◌, ◌≤◌, ◌≤ℤ◌, ◌*ℤ◌, ℕ, ℤ, pos, zero, suc, Bool, List, [], ◌∷◌, ◌++◌, length, take, get_or, All, arith, refl, inl, inr, subst}
+use Rattle.std.proofs.lemmas.Int.{ints, clamps}
+use Rattle.std.proofs.lemmas.List.Elements.{All-head, All-more, All-push, All-tail}
+use Rattle.std.specs.Int.{int_max, int_min}
+use Rattle.intersection.specs.Fineness.{times_le}
+use Rattle.cover_finder.specs.Common.{Bounded, ClaimData, Course, Empty, Exchange, Fits, Groups, HasFalse, HoldsErrorOf, HoldsOne, Hull, IsInHull, IsObservedIn, IsSaidBySome, Part, Stretch, Unbounded, holds, holds_false}
+use Rattle.cover_finder.specs.Hull.{AreCases, AreSaid, HoldsError, join_of}
+
+-- ---- parts
+
+pub with_part : (claim : ClaimData) (xs : List Exchange) (out : ℕ → Bool) (stretch : Stretch) (parts items : List Part)
+    (part : Part) → items ≡ parts ++ part ∷ [] → AreSaid claim xs out stretch parts
+    → IsSaidBySome claim xs out stretch part → part.server < length claim.groups → AreSaid claim xs out stretch items
+with_part claim xs out stretch parts items part is before says below = record {
+  said = rw is (All-push (IsSaidBySome claim xs out stretch) parts part before.said says);
+  listed = rw is (All-push (λ p. p.server < length claim.groups) parts part before.listed below);
+}
+
+-- ---- the least hull that holds two
+
+lower : (n : ℕ) (lo low e : ℤ) → (lo *ℤ pos n) ≤ℤ e → (int_min lo low *ℤ pos n) ≤ℤ e
+lower n lo low e from = omega (arith, ints, times_le (int_min lo low) lo n (omega (arith, ints, clamps)))
+
+higher : (n : ℕ) (hi high e : ℤ) → e ≤ℤ (hi *ℤ pos n) → e ≤ℤ (int_max hi high *ℤ pos n)
+higher n hi high e to = omega (arith, ints, times_le hi (int_max hi high) n (omega (arith, ints, clamps)))
+
+lower' : (n : ℕ) (lo low e : ℤ) → (low *ℤ pos n) ≤ℤ e → (int_min lo low *ℤ pos n) ≤ℤ e
+lower' n lo low e from = omega (arith, ints, times_le (int_min lo low) low n (omega (arith, ints, clamps)))
+
+higher' : (n : ℕ) (hi high e : ℤ) → e ≤ℤ (high *ℤ pos n) → e ≤ℤ (int_max hi high *ℤ pos n)
+higher' n hi high e to = omega (arith, ints, times_le high (int_max hi high) n (omega (arith, ints, clamps)))
+
+pub join_first : (course : Course) (a b : Hull) → IsInHull course a → IsInHull course (join_of a b)
+join_first course Unbounded b held = tt
+join_first course Empty b held = absurd held
+join_first course (Bounded lo hi) Unbounded held = tt
+join_first course (Bounded lo hi) Empty held = held
+join_first course (Bounded lo hi) (Bounded low high) held =
+    (lower course.fineness lo low _ held.0, higher course.fineness hi high _ held.1)
+
+pub join_second : (course : Course) (a b : Hull) → IsInHull course b → IsInHull course (join_of a b)
+join_second course Unbounded b held = tt
+join_second course Empty b held = held
+join_second course (Bounded lo hi) Unbounded held = held
+join_second course (Bounded lo hi) Empty held = absurd held
+join_second course (Bounded lo hi) (Bounded low high) held =
+    (lower' course.fineness lo low _ held.0, higher' course.fineness hi high _ held.1)
+
+-- ---- the hulls of cases
+
+module _ (claim : ClaimData) (xs : List Exchange) (stretch : Stretch) where
+  -- the hull holds the error where all groups of a set hold a false server each
+  abbrev pub Holds : Hull → Groups → Type 0
+  Holds hull out = HoldsErrorOf claim xs stretch (HasFalse claim (holds out)) hull
+
+  pub with_one : (cases : List Groups) (k : ℕ) (d : Groups) (hull more whole : Hull) → k < length cases
+      → All (Holds hull) (take k cases) → Holds more (get_or cases k d)
+      → ((course : Course) → IsInHull course hull → IsInHull course whole)
+      → ((course : Course) → IsInHull course more → IsInHull course whole)
+      → All (Holds whole) (take (k + 1) cases)
+  with_one cases k d hull more whole below all last first second =
+      All-more (Holds whole) cases k d below
+      (λ j e under course fits among observed. first course (all j e under course fits among observed))
+      (λ course fits among observed. second course (last course fits among observed))
+
+  -- where a course has a false server in all groups of one, it holds the error in it
+  of_one : (hull : Hull) (cases : List Groups) → All (Holds hull) cases → (course : Course) → Fits claim xs course
+      → HoldsOne cases (holds_false claim.groups course.is_false)
+      → IsObservedIn course stretch.begin stretch.end → IsInHull course hull
+  of_one hull [] all course fits one observed = absurd one
+  of_one hull (out ∷ cases) all course fits (inl here) observed =
+      All-head (Holds hull) out cases all course fits here observed
+  of_one hull (out ∷ cases) all course fits (inr later) observed =
+      of_one hull cases (All-tail (Holds hull) out cases all) course fits later observed
+
+  pub of_cases : (hull : Hull) (cases : List Groups) → All (Holds hull) cases → AreCases claim xs cases
+      → HoldsError claim xs stretch hull
+  of_cases hull cases all are course fits among observed =
+      of_one hull cases all course fits (are course fits) observed
