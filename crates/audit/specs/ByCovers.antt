@@ -1,8 +1,8 @@
 -- The report of `at` for one reading by covers: the hull of the clock's error over the ticks for
--- which the clock showed it, by certain sets of groups, and when that was. Which exchanges are found
--- for it has no definition, so the report is one on what was found.
+-- which the clock showed it, and when that was. Which exchanges the hull is of has no definition, so
+-- the report is one on what was found.
 use Rattle.std.specs.Prelude.{◌≡◌, ◌==◌, ◌&&◌, ℕ, ◌++◌, [], Bool, List, Option, None, Some, if◌then◌else◌, pos}
-use Rattle.audit.specs.Common.{Course, FeedState, Fits, HoldsErrorByCovers, IsObservedIn, IsThen, Memory, ReadingData, Report, Style, Yes, parts_text, reading_over, refused, stretch_over, true_text, whole_text}
+use Rattle.audit.specs.Common.{Course, Fits, HoldsErrorByCovers, IsObservedIn, IsThen, Memory, ReadingData, Report, Style, Yes, parts_text, reading_over, refused, stretch_over, true_text, whole_text}
 use Rattle.audit.specs.Evidence.{EvidenceData, GiveEvidence, OfClaimAndCapture}
 use Rattle.audit.specs.Question.{Finding, QuestionData, no_finding}
 use Rattle.audit.specs.Reading.{ticks_asked}

@@ -9,8 +9,8 @@ use Rattle.audit.specs.declared.question.by_covers.HullOver.{HullOver}
 use Rattle.audit.specs.Second.{SecondData, SecondKind, second_read}
 
 -- What was found that has no definition of its own: what settles a claim, or why it isn't known;
--- the least bound that a certificate carries, whether any course of events fits, and the hull over a
--- reading by covers, if these were looked for. `specs/Finding` says what it shows.
+-- the least bound that a certificate carries, whether any course of events fits, and the hull by
+-- covers over a reading, if these were looked for. `specs/Finding` says what it shows.
 pub record Finding : Type 0 where
   pub settled : Result AnswerData FindFault
   pub least : Option (Option LeastCarried)

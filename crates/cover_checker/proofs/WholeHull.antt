@@ -1,5 +1,5 @@
 -- The hull of what exchanges say over a stretch, in a course that fits them all.
-use Rattle.cover_checker.proofs.Common.{ℕ, ◌-◌, ◌∙◌, Bool, List, length, get_or, All, ClaimData, Course, Exchange, Fits, IsHull, IsInHull, IsLawful, IsLawfulExchange, IsObservedIn, Part, Stretch, group_intervals, size_of}
+use Rattle.cover_checker.proofs.Common.{ℕ, ◌-◌, ◌∙◌, Bool, List, length, get_or, All, ClaimData, Exchange, IsHull, IsLawful, IsLawfulExchange, Part, Stretch, group_intervals, size_of}
 use Rattle.std.specs.Prelude.{⊤}
 use Rattle.intersection.specs.declared.kinds.Hull.{Hull}
 use Rattle.feasibility.proofs.Covers.{listed_in_groups}

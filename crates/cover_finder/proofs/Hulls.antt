@@ -1,5 +1,5 @@
 -- Hulls by covers.
-use Rattle.std.proofs.Common.{◌≡◌, ◌+◌, ◌<◌, ◌≤◌, ◌≤ℤ◌, ◌*ℤ◌, ℕ, ℤ, pos, zero, suc, Bool, List, [], ◌∷◌, ◌++◌, length, take, get_or, All, arith, refl, inl, inr, subst}
+use Rattle.std.proofs.Common.{◌≡◌, ◌+◌, ◌<◌, ◌≤◌, ◌≤ℤ◌, ◌*ℤ◌, ℕ, ℤ, pos, Bool, List, [], ◌∷◌, ◌++◌, length, take, get_or, All, arith, inl, inr}
 use Rattle.std.proofs.lemmas.Int.{ints, clamps}
 use Rattle.std.proofs.lemmas.List.Elements.{All-head, All-more, All-push, All-tail}
 use Rattle.std.specs.Int.{int_max, int_min}

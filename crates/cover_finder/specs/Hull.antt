@@ -1,7 +1,7 @@
 -- Hulls by covers: what the clock's error can't be outside of, in any course that fits.
 use Rattle.std.specs.Prelude.{⊤, ℕ, ◌<◌, Bool, List, All, length}
 use Rattle.std.specs.Int.{int_max, int_min}
-use Rattle.cover_finder.specs.Common.{Bounded, ClaimData, Course, Empty, Exchange, Fits, Groups, HasFalse, HoldsErrorOf, HoldsOne, Hull, IsSaidBySome, Part, Stretch, Unbounded, holds_false}
+use Rattle.cover_finder.specs.Common.{Bounded, ClaimData, Course, Empty, Exchange, Fits, Groups, HoldsErrorOf, HoldsOne, Hull, IsSaidBySome, Part, Stretch, Unbounded, holds_false}
 
 -- parts are what some entries say, of servers that the claim lists
 pub record AreSaid (claim : ClaimData) (xs : List Exchange) (out : ℕ → Bool) (stretch : Stretch)

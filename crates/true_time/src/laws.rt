@@ -23,8 +23,8 @@ pub fn true_time_lies_between()
     best_hulls_hold_the_error();
 }
 
-/// Whenever the clock shows a reading, true time lies between the two that a hull gives in which the
-/// error lies.
+/// Whenever the clock shows a reading, true time lies between the two that a hull gives in which
+/// the error lies.
 pub fn errors_tell_true_time()
     ensures told { (course : Course) (r : ReadingData) (hull : Hull) →
         IsObservedIn course (pos r.begin) (pos r.end) → IsInHull course hull →

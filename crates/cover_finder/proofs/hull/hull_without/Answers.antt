@@ -11,7 +11,8 @@ returns g c =
     let parts = c.parts_without-parts.result.items in
     let list = group_intervals claim.groups parts in
     let left = claim.false_max - size_of claim (holds c.args.out) in
-    let is = rw (c.as_slice.ensures.value, c.as_slice-2.ensures.value, c.false_besides-few.ensures) at c.piece_hull.ensures in
+    let is = rw (c.as_slice.ensures.value, c.as_slice-2.ensures.value, c.false_besides-few.ensures)
+    at c.piece_hull.ensures in
     c.hulls_hold_the_error.ensures claim xs (holds c.args.out) c.args.stretch parts c.piece_hull.result
     c.args.claim.now.lawful c.requires.exchanges c.parts_without-parts.ensures.said
     (subst (λ (h : Hull). IsHull list left h) (sym is) (c.every_list_has_a_hull.ensures list left))

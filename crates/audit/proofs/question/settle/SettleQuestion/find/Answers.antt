@@ -27,5 +27,5 @@ returns-in-Err-clause-fault c =
     let finding : Finding = record no_finding { settled = Err fault } in
     let settles = rw c.deref.ensures.value at c.in-Err.ensures in
     rw c.run_fault_of.ensures (unfound_as _ _ finding (λ style. settle_report style c.args.self.about.now finding e) _
-    fault (inr refl) (record { settled = fault_found e fault settles.refused; least = tt; fits = tt; over = tt }) (λ style. refl)
-    (λ style. refl))
+    fault (inr refl) (record { settled = fault_found e fault settles.refused; least = tt; fits = tt; over = tt })
+    (λ style. refl) (λ style. refl))
