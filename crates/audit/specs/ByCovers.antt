@@ -1,6 +1,6 @@
 -- The report of `at` for one reading by covers: the hull of the clock's error over the ticks for
--- which the clock showed it, and when that was. Which exchanges the hull is of has no definition, so
--- the report is one on what was found.
+-- which the clock showed it, and when that was. Which exchanges the hull is of has no definition,
+-- so the report is one on what was found.
 use Rattle.std.specs.Prelude.{◌≡◌, ◌==◌, ◌&&◌, ℕ, ◌++◌, [], Bool, List, Option, None, Some, if◌then◌else◌, pos}
 use Rattle.audit.specs.Common.{Course, Fits, HoldsErrorByCovers, IsObservedIn, IsThen, Memory, ReadingData, Report, Style, Yes, parts_text, reading_over, refused, stretch_over, true_text, whole_text}
 use Rattle.audit.specs.Evidence.{EvidenceData, GiveEvidence, OfClaimAndCapture}
