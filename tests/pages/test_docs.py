@@ -129,8 +129,8 @@ def test_columns() -> None:
 MOST = 31_000
 TABLES = re.compile(r"<!-- (?!end)[\w -]+ -->.*?<!-- end -->", re.S)
 LIMITS = {
-    "README.md": 910, "SECURITY.md": 150, "docs/STABILITY.md": 440, "docs/PROMISES.md": 1680,
-    "docs/THEOREM.md": 3330, "docs/DEFINITIONS.md": 4350, "docs/DECISIONS.md": 1480, "docs/FORMATS.md": 4010,
+    "README.md": 910, "SECURITY.md": 150, "docs/STABILITY.md": 440, "docs/PROMISES.md": 1700,
+    "docs/THEOREM.md": 3100, "docs/DEFINITIONS.md": 4410, "docs/DECISIONS.md": 1480, "docs/FORMATS.md": 4035,
     "docs/GUIDE.md": 2570, "docs/REFUSALS.md": 870, "docs/DOSSIER.md docs/AUDITING.md": 3340, "docs/FLEET.md": 1410,
     "docs/BOUND.md": 690, "docs/RATTLE.md": 990, "second/README.md": 240, "ARCHITECTURE.md CONTRIBUTING.md": 3050,
     "CHANGELOG.md": 600, "bench/README.md": 630, "data/README.md": 600,
