@@ -68,6 +68,7 @@ not_asked : (rows : List Row) (request : Request) → IsRequest (codes "check") 
 not_asked rows requests.Samples is = not_so _ refl is
 not_asked rows (requests.At at) is = not_so _ refl is.0
 not_asked rows (requests.Reading reading) is = not_so _ refl is.0
+not_asked rows (requests.ByCovers asked) is = not_so _ refl is.0
 not_asked rows requests.Settle is = not_so _ refl is
 not_asked rows (requests.Find find) is = not_so _ refl is.0
 not_asked rows requests.FindRefutation is = not_so _ refl is.0
@@ -82,7 +83,8 @@ not_cutting (inr envelope) = not_so _ refl envelope
 not_refused : (rows : List Row) (told : Text) → IsRefusable (codes "check") rows told → ⊥
 not_refused rows told (inl named) = true≢false named.0
 not_refused rows told (inr (inl unstepped)) = not_cutting unstepped.0
-not_refused rows told (inr (inr untimed)) = not_so _ refl untimed.0
+not_refused rows told (inr (inr (inl untimed))) = not_so _ refl untimed.0
+not_refused rows told (inr (inr (inr covered))) = not_so _ refl covered.0
 
 abbrev places_at : Text → Text → Text → Option Text → Places
 places_at claim second capture sums = record {
@@ -140,7 +142,8 @@ module _ (G : Type 0) (places : Places) (before after : World) (response : Respo
   by_called rows (calls.List listed) invocation are is once says = absurd (not_so _ refl is.0)
   by_called rows (calls.Order first second) invocation are is once says = absurd (not_so _ refl is.0)
   by_called rows (calls.RefuseTime shown) invocation are (inl at) once says = absurd (not_so _ refl at.0)
-  by_called rows (calls.RefuseTime shown) invocation are (inr order) once says = absurd (not_so _ refl order.0)
+  by_called rows (calls.RefuseTime shown) invocation are (inr (inl at)) once says = absurd (not_so _ refl at.0)
+  by_called rows (calls.RefuseTime shown) invocation are (inr (inr order)) once says = absurd (not_so _ refl order.0)
   by_called rows (calls.Refuse text) invocation are is once says = absurd (not_refused rows _ is)
   by_called rows (calls.Show text) invocation are is once says = absurd is
 
