@@ -157,6 +157,7 @@ def plain_commands() -> list[Command]:
 
 
 def variants(name: str) -> list[tuple[str, ...]]:
-    """A command's options as they are tried: each of those above, and all together."""
+    """A command's options as they are tried: each of those above, and all together that don't stand for operands."""
     found = [command.options for command in plain_commands() if command.name == name]
-    return list(dict.fromkeys([*found, tuple(word for options in found for word in options)]))
+    together = tuple(word for options in found if options != INSTEAD.get(name) for word in options)
+    return list(dict.fromkeys([*found, together]))

@@ -70,6 +70,7 @@ def calls_on(claim: Path, folder: Path) -> list[tuple[str, Words]]:
     moments = moments_of(json.loads(claim.read_text()))
     given += [["at", *both, moment] for moment in moments]
     readings = list(filter(answers.reading_of, moments))
+    given += [["at", *both, reading, "--covers"] for reading in readings]
     given += [["order", *both, first, *inputs, other] for first, other in zip(readings, readings[1:])
               for inputs in (both, OTHER)]
     for step in ("1", "8"):
