@@ -153,12 +153,12 @@ def is_of_years(name: str, spans: list[tuple[str, str]]) -> bool:
 
 def names_of(plan: Plan, seconds: int) -> dict[str, str]:
     """The days of which some are drawn, each with its name for good: those of years, if there are any; else all, by
-    what audit.json says."""
+    what audit.json says. (One without a name isn't left to chance: its year says nothing of it.)"""
     def work(path: str, _: int) -> str:
         with Folder(path) as folder:
             return read_any(folder.data(files.AUDIT)).name
-    return plan.stated or {path: name for path, name in run_all(plan.every, work, str, seconds)
-                           if isinstance(name, str) and name}
+    named = plan.stated.items() or run_all(plan.every, work, str, seconds)
+    return {path: name for path, name in named if isinstance(name, str) and name not in ("", NOTHING)}
 
 
 def is_of_several(folder: Folder) -> bool:
@@ -203,9 +203,10 @@ def days_below(path: str, named: set[str], seconds: int) -> Below | Refusal:
             if signed_in(folder) != files.YEAR:
                 return Below({})
             days, year = days_of(folder, named), read_statements(folder.data(files.YEAR))
-            return Below({day: name for day, name in days.items() if name != NOTHING and is_there(day)},
-                         span=(str(year.year), year.made[:10]),
-                         without_audit=[day for day, name in days.items() if name == NOTHING])
+            without = {day for day, name in days.items() if name == NOTHING and is_without(day)}
+            return Below({day: name for day, name in days.items()
+                          if day not in without and (name == NOTHING or is_there(day))},
+                         span=(str(year.year), year.made[:10]), without_audit=sorted(without))
     return run_one(path, work, Below, seconds)
 
 
@@ -276,9 +277,16 @@ def is_there(path: str) -> bool:
 
 
 def may_be_signed(path: str) -> bool:
-    """Whether an audit, a year or an answer is in a folder."""
+    """Whether an audit, a year or an answer is in a folder, or the signature of one."""
     with Folder(path) as folder:
-        return any(map(folder.has, files.SIGNATURES))
+        return any(map(folder.has, (*files.SIGNATURES, *files.SIGNATURES.values())))
+
+
+def is_without(path: str) -> bool:
+    """Whether there is no such day, or nothing in it that may be signed. (What nobody can look into may be.)"""
+    with suppress(Fault):
+        return not files.kind_of(files.HOME, path) or not may_be_signed(path)
+    return False
 
 
 def is_of_days(path: str) -> bool:

@@ -743,3 +743,35 @@ def test_words_of_refusals(place: Path) -> None:
     text = (pages / f"{called(folder.parent)}.html").read_text()
     check("words of a refusal", said=([words in text for words in ("it was refused by what web-1 signed", "Ann saw")],
                                       [True, False]))
+
+
+def test_spoilt_audits(place: Path) -> None:
+    """A day that its year doesn't count, since its audit.json isn't one, is looked at and told all the same."""
+    if not is_here("ssh-keygen", "a fleet that signs"):
+        return
+    signers, machine = signers_of(place, "ann", "web-1"), place / "fleet" / "web-1"
+    dossier("audit", *(folders := [day(machine, 0, RIGHT), day(machine, 1, "9000000..9000001")]))
+    for folder in folders:
+        sign(place, "web-1", folder / "audit.json")
+    audit, whole = folders[1] / "audit.json", (folders[1] / "audit.json").read_bytes()
+    for what, data, files in rows(("a byte more", whole + b"x", []), ("another form", b"{}", []), ("a link", b"", []),
+                                  ("a year", whole, ["year.json"]), ("its signature alone", b"", []), ("none", b"", [])):
+        audit.unlink(missing_ok=True)
+        if data:
+            audit.write_bytes(data)
+        elif what == "a link":
+            audit.symlink_to(folders[0] / "audit.json")
+        elif what == "none":
+            Path(f"{audit}.sig").unlink()
+        for name in files:
+            (folders[1] / name).write_text("{}")
+        pages = year_of(place, "--signers", signers, machine)
+        dossier("sign", "--key", place / "ann", "--signers", signers, pages)
+        for way in "", "--answers", "--sample 1 --seed x":
+            told = dossier("verify", "--as-signed", *way.split(), "--signers", signers, pages, machine)
+            last, is_none = told[1].decode().splitlines()[-1], what == "none"
+            check(f"a day of a year with {what} {way}", status=(told[0], int(not is_none)), last=(
+                last.startswith(f"not as it was signed: {folders[1]};"), not is_none))
+        shutil.rmtree(pages)
+        for name in files:
+            (folders[1] / name).unlink()
