@@ -146,7 +146,14 @@ def in_a_word(signer: str) -> str:
 
 def is_called(signer: str, machine: str) -> bool:
     """Whether a signer is a machine: called like its folder, or `..@` that."""
-    return signer == machine or signer.endswith(f"@{machine}")
+    return machine in called_by(signer)
+
+
+def called_by(signer: str) -> list[str]:
+    """What a machine may be called whose key a signer has, the longest name first: a name may have an `@` of its own.
+    """
+    parts = signer.split("@")
+    return ["@".join(parts[k:]) for k in range(len(parts))]
 
 
 def sums_of(data: bytes, signature: bytes) -> bytes:

@@ -32,7 +32,7 @@ from .judging import ONLY_MADE, Judging, Unjudgeable
 from .days import NAMESAKES
 from .planning import (Machines, beside_years, is_of_days, is_of_several, machines_below, names_of, once,
                        planned, those_among)
-from .signature import GOOD, NONE, UNFIT, UNSEEN, Signers, in_words, signed_in
+from .signature import GOOD, NONE, UNFIT, UNSEEN, Signers, called_by, in_words, signed_in
 from .statements import (Compared as YearCompared, compared as year_compared, days_of, folders_above,
                          unanswered_in)
 from .twins import SeenFolders
@@ -405,15 +405,18 @@ def not_its_own(folder: Folder, signer: str, machines: Machines) -> str:
     """Why a machine's signature doesn't count, if it doesn't: the machine signed what isn't a day of its own, a year or
     an answer to a log, or a day of another one; or another one is called alike. A machine is what is called so, among
     those that are looked at, beside their folders, below what is named, or in what is signed."""
-    own, signed, path = signer.rpartition("@")[2], signed_in(folder), files.absolute(folder.path)
+    signed, path, called = signed_in(folder), files.absolute(folder.path), called_by(signer)
     above, names, places = os.path.dirname(path), machines.names, machines.places
     if signed == files.AUDIT:
-        if own in {os.path.basename(one) for one in (path, above, *(machines.folders & folders_above(path)))}:
-            return NAMESAKES.format(own) if own in machines.alike else ""
+        own = {os.path.basename(one) for one in (path, above, *(machines.folders & folders_above(path)))}
+        machine = next((name for name in called if name in own | names), "")
+        if machine in own:
+            return NAMESAKES.format(machine) if machine in machines.alike else ""
         places |= {above, os.path.dirname(above)}
     else:
         names |= stated_in(folder.data(signed), signed)
-    return OWN_DAYS if own in names or any(is_in(place, own) for place in places) else ""
+    return OWN_DAYS if not names.isdisjoint(called) or any(is_in(place, name) for place in places for name in called) \
+        else ""
 
 
 def stated_in(data: bytes, signed: str) -> set[str]:

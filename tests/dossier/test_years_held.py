@@ -775,3 +775,25 @@ def test_spoilt_audits(place: Path) -> None:
         shutil.rmtree(pages)
         for name in files:
             (folders[1] / name).unlink()
+
+
+def test_names_with_an_at(place: Path) -> None:
+    """A machine whose name has an `@` is that machine, and none that is called like the end of its name: its key signs
+    its own days, and neither a year nor what is another's."""
+    if not is_here("ssh-keygen", "a fleet that signs"):
+        return
+    for number, (names, name, key, is_own) in enumerate(rows(
+            (["root@web-1"], "root@web-1", "root@web-1", True), (["b@web-1"], "b@web-1", "a@b@web-1", True),
+            (["web-1", "ntp@web-1"], "ntp@web-1", "ntp@web-1", True), (["web-1", "ntp@web-1"], "web-1", "web-1", True),
+            (["web-1", "ntp@web-1"], "web-1", "ntp@web-1", False), (["web-1"], "web-1", "ntp@web-1", True))):
+        within = place / str(number)
+        within.mkdir()
+        signers, fleet = signers_of(within, key, "ann"), within / "fleet"
+        dossier("audit", *(day(fleet / one, 0, RIGHT, drift_ppb=k) for k, one in enumerate(names)))
+        sign(within, key, fleet / name / "2001-09-09" / "audit.json")
+        pages = year_of(within, *(fleet / one for one in names))
+        for by in "ann", key:
+            sign(within, by, pages / "year.json")
+            status, out, _ = dossier("verify", "--as-signed", "--signers", signers, pages, fleet)
+            check(f"{key} of {name} among {names}, the year by {by}", status=(status, int(by == key or not is_own)),
+                  said=(out.decode().count(OWN), int(by == key) + int(not is_own)))
