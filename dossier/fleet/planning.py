@@ -2,7 +2,8 @@
 rest, and all days beside these.
 """
 import os
-from collections.abc import Callable
+import stat
+from collections.abc import Callable, Iterable
 from contextlib import suppress
 from typing import NamedTuple
 
@@ -14,7 +15,7 @@ from ..folder.jobs import run_all, run_one
 from ..folder.older import read_any
 from ..folder.result import Below
 from ..folder.year import read_statements
-from ..text import listed
+from ..text import listed, plain
 from .days import is_day, namesakes
 from .events import folders_of, is_of_events
 from .signature import signed_in
@@ -27,19 +28,26 @@ MAX_DAYS_AT_ONCE, AT_ONCE = 1_000_000, 1_000
 
 
 class Machines(NamedTuple):
-    """The folders of machines whose days are looked at, what these are called, and the folders in which they are; and
-    the folders of all machines in those that are named, and what several of these are called."""
+    """The folders of machines whose days are looked at, what these are called, and the folders in which they are; the
+    folders of all machines in those that are named that have days of the same years, and what several of these are
+    called; the folders of machines on whose days a year or an answer rests; and these years, if they are known."""
 
     folders: frozenset[str] = frozenset()
     names: frozenset[str] = frozenset()
     places: frozenset[str] = frozenset()
     every: frozenset[str] = frozenset()
     alike: frozenset[str] = frozenset()
+    resting: frozenset[str] = frozenset()
+    years: frozenset[str] = frozenset()
 
-    def among(self, every: frozenset[str]) -> "Machines":
-        """These among all."""
-        return self._replace(every=self.folders | every, names=self.names.union(map(os.path.basename, every)),
-                             alike=namesakes(self.folders | every))
+    def among(self, found: dict[str, str]) -> "Machines":
+        """These among all that were found, each with a day of these years, if it has one."""
+        every = self.every.union(path for path, day in found.items() if day)
+        return self._replace(every=every, names=self.names.union(map(os.path.basename, found)), alike=namesakes(every))
+
+    def are_of(self, day: str) -> bool:
+        """Whether a day is of the years that are asked for."""
+        return not self.years or day[:4] in self.years
 
 
 class Plan(NamedTuple):
@@ -110,14 +118,30 @@ def planned(folders: list[str], named: set[str], seconds: int) -> Plan:
     every = [spelled.get(files.absolute(each), each) for folder in folders for each in (*below[folder], folder)
              if each not in of_events]
     every = once(every) + of_events
-    days = [path for path in every + others if path in stated or is_day(os.path.basename(path))]
-    own = frozenset(os.path.dirname(files.absolute(day)) for day in days)
+    days = [path for path in every if path in stated or is_day(os.path.basename(path))]
+    own = folders_of_days(days + others)
     split = [os.path.split(machine) for machine in own]
-    machines = Machines(own, frozenset(name for _, name in split), frozenset(place for place, _ in split))
+    of_years = {*years, *(year_in(path) for path in every if path not in stated and (
+        files.absolute(path) in rests or is_day(os.path.basename(path))))}
+    resting_on = folders_of_days(path for path in days if files.absolute(path) in rests)
+    machines = Machines(own, frozenset(name for _, name in split), frozenset(place for place, _ in split),
+                        folders_of_days(days), resting=resting_on,
+                        years=frozenset(() if "" in of_years else of_years))
     by_itself = named.difference(day for day in answered if not has_signature(day))
     resting = {path for path in every if files.absolute(path) in rests - by_itself}
     said = {folder: words for folder, words in holds.items() if words}
     return Plan(every, stated, said, frozenset(resting), machines, len(others), tuple(years), bool(of_events), refused)
+
+
+def folders_of_days(days: Iterable[str]) -> frozenset[str]:
+    """The folders of the machines of days."""
+    return frozenset(os.path.dirname(files.absolute(day)) for day in days)
+
+
+def year_in(day: str) -> str:
+    """The year after which a day is called; nothing if it is called otherwise."""
+    name = os.path.basename(day)
+    return name[:4] if is_day(name) else ""
 
 
 def once(paths: list[str]) -> list[str]:
@@ -231,23 +255,46 @@ def days_beside(path: str, machines: list[str], rests: set[str], seconds: int) -
     return run_one(path, work, list[str], seconds)
 
 
-def machines_below(folders: list[str], seconds: int) -> tuple[frozenset[str], dict[str, Refusal]]:
-    """The folders of machines in those that are named, or in a folder in these; and why they can't be found in some.
-    (What is called like a machine and has no days may be of whoever signs; and what is within a folder that has days is
-    no machine, but that one's.)"""
-    def work(path: str, _: int) -> list[str]:
-        above = [folder for folder in ([path] if path else folders) if not has_days(folder)]
-        places = {place for folder in above for place in (folder, *others_in(folder)) if not has_days(place)}
-        return sorted({files.absolute(path) for place in places for path in others_in(place) if has_days(path)})
-    found, refused = set[str](), dict[str, Refusal]()
-    result = run_one("", work, list[str], seconds)
-    every = run_all(folders, work, list[str], seconds) if isinstance(result, Refusal) else [("", result)]
+def machines_below(folders: list[str], machines: Machines, seconds: int) -> tuple[dict[str, str], dict[str, Refusal]]:
+    """The folders of machines in those that are named, or in a folder in these, each with a day that has an audit of
+    the same years, if it has one; and why they can't be found in some. (What is called like a machine and has no days
+    may be of whoever signs; and what is within a machine on which something rests is no machine, but that one's.)"""
+    def work(path: str, _: int) -> dict[str, str]:
+        above, days = [path] if path else folders, dict[str, str]()
+        for place in {place for folder in above for place in (folder, *others_among(folder, machines))}:
+            for other in others_among(place, machines):
+                day = audited_in(other, machines)
+                days |= {files.absolute(other): day} if day or has_days(other) else {}
+        return days
+    found, refused = dict[str, str](), dict[str, Refusal]()
+    result = run_one("", work, dict[str, str], seconds)
+    every = run_all(folders, work, dict[str, str], seconds) if isinstance(result, Refusal) else [("", result)]
     for path, came in every:  # (one by one if they are too many together)
         if isinstance(came, Refusal):
             refused[path] = came
         else:
             found.update(came)
-    return frozenset(found), refused
+    return found, refused
+
+
+def others_among(place: str, machines: Machines) -> list[str]:
+    """The folders in one that may be machines, or may hold some; a fault if nobody can look into it."""
+    is_folder = files.kind_of(files.HOME, place) == files.KINDS[stat.S_IFDIR]
+    if not is_folder or not machines.resting.isdisjoint(folders_above(place)):
+        return []
+    try:
+        return folders_in(place, are_days=False)
+    except Fault as error:
+        raise error.of(plain(place)) from None
+
+
+def audited_in(path: str, machines: Machines) -> str:
+    """A day in a folder that has an audit, or the like, and is of the same years as machines; the folder itself if
+    nobody can look into it, and nothing if it has none."""
+    with suppress(Fault), Folder(path) as folder:
+        return next((name for name in folder.names() if is_day(name) and machines.are_of(name) and any(
+            folder.has(f"{name}/{file}") for file in files.SIGNATURES)), "")
+    return path
 
 
 def others_in(place: str) -> list[str]:

@@ -249,7 +249,7 @@ def verify_all(folders: list[str], verifier: Verifier, signers: Signers, seconds
     verifier.known.believes = how.sample is not None and not how.answers
     left = set(alone).difference(drawn) | beside if how.sample is not None and not how.answers else set()
     signers.look_at([path for path in plan.every if path not in left or path in plan.stated], seconds)
-    below, unseen = machines_below(folders, seconds) if signers.given is not None else (frozenset(), {})
+    below, unseen = machines_below(folders, plan.machines, seconds) if signers.given is not None else ({}, {})
     refused, machines = unseen | plan.refused, plan.machines.among(below)
     told, seen = Tally(how.as_signed, verifier.known.believes, plan.speaks_of), SeenFolders(len(plan.every))
 

@@ -660,8 +660,10 @@ def test_namesakes_beside(place: Path) -> None:
     dossier("events", *among, "--split", answer, log, fleet / "web-1", env=env)
     dossier("sign", "--key", place / "ann", *among, pages, answer, env=env)
     words = "more than one machine is called web-1, so nobody knows whose key that is"
-    for within, status in (("web-2/web-1", 0), ("archive/web-1", 1)):
+    for within, status in (("web-1/web-1", 0), ("web-2/web-1", 0), ("archive/web-1", 1)):
         (fleet / within / "2001-09-10").mkdir(parents=True)
+        if within != "web-2/web-1":  # (where no audit is, there is none of another machine)
+            shutil.copy(folders[0] / "audit.json", fleet / within / "2001-09-10")
         for folder in pages, answer:
             told = dossier("verify", "--as-signed", "--known", *among, folder, fleet, env=env)
             line = next(line for line in told[1].decode().splitlines() if line.startswith(f"{folder}: "))
@@ -797,3 +799,41 @@ def test_names_with_an_at(place: Path) -> None:
             status, out, _ = dossier("verify", "--as-signed", "--signers", signers, pages, fleet)
             check(f"{key} of {name} among {names}, the year by {by}", status=(status, int(by == key or not is_own)),
                   said=(out.decode().count(OWN), int(by == key) + int(not is_own)))
+
+
+def test_namesakes_of_places(place: Path) -> None:
+    """A folder of machines that has a folder called after a day is none of them, and one of too many files holds what
+    nobody knows; but days of another year, or without an audit, are no other machine's."""
+    if not is_here("ssh-keygen", "a fleet that signs"):
+        return
+    signers, fleet = signers_of(place, "ann", "web-1"), place / "fleet"
+    own, other = (day(fleet / name / "web-1", 0, RIGHT, drift_ppb=k) for k, name in enumerate(("paris", "london")))
+    dossier("audit", own, other, env={**ENVIRONMENT, "XDG_STATE_HOME": str(place / "own")})
+    for folder in own, other:
+        sign(place, "web-1", folder / "audit.json")
+    among, env = ["--signers", signers], {**ENVIRONMENT, "XDG_STATE_HOME": str(place / "here")}
+    pages, answer = year_of(place, *among, own.parent, env=env), place / "answer"
+    log = log_of(place, f"machine,time\nweb-1,{NOON}Z\n")
+    dossier("events", *among, "--split", answer, log, own.parent, env=env)
+    dossier("sign", "--key", place / "ann", *among, pages, answer, env=env)
+    words = "more than one machine is called web-1, so nobody knows whose key that is"
+
+    def told(what: str, status: int, said: str, *folders: Path) -> None:
+        """What comes of each, beside what there is now."""
+        for folder in folders:
+            came, out, _ = dossier("verify", "--as-signed", "--known", *among, folder, fleet, env=env)
+            check(f"{folder.name} beside {what}", status=(came, status), said=(said in out.decode(), bool(status)))
+    for name in "1999-01-01", "2002-01-01":
+        (fleet / "london" / name).mkdir()
+        told(f"london with {name}", 1, words, pages, answer)
+        (fleet / "london" / name).rmdir()
+    for number in range(100_001):
+        (fleet / "london" / str(number)).touch()
+    told("too many files", 1, "more than 100,000 files are in the folder", pages, answer)
+    shutil.rmtree(fleet / "london")
+    for name, is_audited in rows(("london/web-1/1999-01-01", False), ("web-1/1999-01-01", False),
+                                 ("2000/web-1/2000-09-09", True), ("london/web-1/2001-09-10", False)):
+        (fleet / name).mkdir(parents=True)
+        if is_audited:
+            shutil.copy(own / "audit.json", fleet / name)
+        told(name, 0, words, *([pages] if name[-10:-6] != "2001" else []), answer)
