@@ -21,8 +21,10 @@ from .events import folders_of, is_of_events
 from .signature import signed_in
 from .statements import DAYS, NOTHING, days_of, folders_above, has_days
 
-OF_ITS_OWN = {*files.SIGNATURES, *files.SIGNATURES.values(), *files.LEFT, files.LIST, files.ANSWERED}
-"""Files of an audit, a year or an answer. (A log may lie among machines before it is answered.)"""
+OF_ITS_OWN = {*files.SIGNATURES, *files.SIGNATURES.values(), *files.LEFT}
+"""Files of an audit, a year or an answer. (Pages, a log and its answer may lie among machines.)"""
+OF_CALLS = files.CLAIM, files.LIST, files.ANSWERED
+"""Files of what was, if no days are beside them."""
 MAX_DAYS_AT_ONCE, AT_ONCE = 1_000_000, 1_000
 """Days that are verified at once, and those of which a process reads audit.json."""
 
@@ -345,5 +347,5 @@ def is_of_days(path: str) -> bool:
 
 
 def is_bare(folder: Folder) -> bool:
-    """The same, and not even a claim."""
-    return not folder.has(files.CLAIM) and is_of_days(folder.path)
+    """The same, and not even a claim, or what is left of pages or an answer."""
+    return not any(map(folder.has, OF_CALLS)) and is_of_days(folder.path)

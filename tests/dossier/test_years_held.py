@@ -837,3 +837,25 @@ def test_namesakes_of_places(place: Path) -> None:
         if is_audited:
             shutil.copy(own / "audit.json", fleet / name)
         told(name, 0, words, *([pages] if name[-10:-6] != "2001" else []), answer)
+
+
+def test_pages_among_machines(place: Path) -> None:
+    """Pages and an answer's rows among a fleet's machines make it neither a year nor an answer; a signature does."""
+    if not is_here("ssh-keygen", "a year that is signed"):
+        return
+    signers, fleet = signers_of(place, "ann"), place / "fleet"
+    dossier("audit", own := day(fleet / "web-1", 0, RIGHT))
+    pages, answer = year_of(place, own.parent), answer_of(place, own.parent)
+    dossier("sign", "--key", place / "ann", pages, answer)
+    dossier("page", "--split", fleet, own)
+    check("pages in a fleet", left=((fleet / "pages.sums").exists(), True))
+    shutil.copy(answer / "answered.csv", fleet)
+    for name, is_other in ("", False), ("web-9.days", True), ("year.json.sig", True):
+        if name:
+            (fleet / name).touch()
+        for folder in pages, answer:
+            status, out, _ = dossier("verify", "--as-signed", "--known", "--signers", signers, folder, fleet)
+            check(f"{folder.name} of a fleet with pages and {name or 'no more'}", status=(status, int(is_other)),
+                  said=(f"{fleet}: ntpaudit-dossier: not audited" in out.decode(), is_other))
+        if name:
+            (fleet / name).unlink()
