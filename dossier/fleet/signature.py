@@ -85,21 +85,26 @@ class Signers:
             return Signature(GOOD, at, holder, f"{key[1]} {key[2]}")
         return self.looked_at(at, on, os.path.basename(os.path.dirname(absolute(folder.path))))
 
-    def look_at(self, paths: list[str], seconds: int) -> None:
-        """Looks at the signatures of folders side by side, so that nobody has to look at those that are good again."""
+    def look_at(self, paths: list[str], seconds: int) -> dict[str, str]:
+        """Looks at the signatures of folders side by side, so that nobody has to look at those that are good again. Who
+        signed which, and nobody those that don't fit, or can't be looked at."""
         def work(path: str, _: int) -> list[str]:
             with Folder(path) as folder:
                 found, signed = self.signature_of(folder), signed_in(folder)
                 if found.state != GOOD:
-                    return []
+                    return [UNFIT] * (found.state == UNFIT)
                 return [sums_of(folder.data(signed), folder.data(SIGNATURES[signed])).hex(), found.signer, found.key]
-        names = dict[tuple[str, str], tuple[str, str]]()
+        names, signers = dict[tuple[str, str], tuple[str, str]](), dict[str, str]()
         jobs = max(1, min(MAX_AT_ONCE, len(os.sched_getaffinity(0)), len(paths)))
         is_needed = self.given is not None and len(paths) > 1
-        for _, came in run_all(paths if is_needed else [], work, list[str], seconds, jobs):
-            if isinstance(came, list) and came:
+        for path, came in run_all(paths if is_needed else [], work, list[str], seconds, jobs):
+            if isinstance(came, list) and came[1:]:
                 sums, *name = came
                 self.seen[bytes.fromhex(sums)] = names.setdefault((name[0], name[1]), (name[0], name[1]))
+                signers[path] = self.seen[bytes.fromhex(sums)][0]
+            elif came:
+                signers[path] = ""
+        return signers
 
     def machine_of(self, day: Folder, path: str, said: str = "") -> str:
         """Who signed a day, in a word, if that is its machine, whose folder's path is given; in the word that is said

@@ -248,9 +248,11 @@ def verify_all(folders: list[str], verifier: Verifier, signers: Signers, seconds
     drawn = drawn_of(alone, how.sample or 0, how.seed)
     verifier.known.believes = how.sample is not None and not how.answers
     left = set(alone).difference(drawn) | beside if how.sample is not None and not how.answers else set()
-    signers.look_at([path for path in plan.every if path not in left or path in plan.stated], seconds)
+    looked_at = [path for path in plan.every if path not in left or path in plan.stated or path in plan.resting]
+    signed = signers.look_at(looked_at, seconds)
     below, unseen = machines_below(folders, plan.machines, seconds) if signers.given is not None else ({}, {})
     refused, machines = unseen | plan.refused, plan.machines.among(below)
+    left -= wrongly_signed({path: signer for path, signer in signed.items() if path in left}, machines, seconds)
     told, seen = Tally(how.as_signed, verifier.known.believes, plan.speaks_of), SeenFolders(len(plan.every))
 
     def work(path: str, _: int) -> Compared:  # (a year's signature is one for its days)
@@ -417,6 +419,14 @@ def not_its_own(folder: Folder, signer: str, machines: Machines) -> str:
         names |= stated_in(folder.data(signed), signed)
     return OWN_DAYS if not names.isdisjoint(called) or any(is_in(place, name) for place in places for name in called) \
         else ""
+
+
+def wrongly_signed(signed: dict[str, str], machines: Machines, seconds: int) -> set[str]:
+    """The days on which something rests that aren't drawn, and of which the signature doesn't fit, or is another
+    machine's: these are looked at too."""
+    others = [path for path, signer in signed.items() if signer and signer != os.path.basename(os.path.dirname(path))]
+    wrong = those_among(others, lambda folder: not_its_own(folder, signed[folder.path], machines) == OWN_DAYS, seconds)
+    return wrong | {path for path, signer in signed.items() if not signer}
 
 
 def stated_in(data: bytes, signed: str) -> set[str]:

@@ -859,3 +859,25 @@ def test_pages_among_machines(place: Path) -> None:
                   said=(f"{fleet}: ntpaudit-dossier: not audited" in out.decode(), is_other))
         if name:
             (fleet / name).unlink()
+
+
+def test_signatures_beside_a_sample(place: Path) -> None:
+    """The signatures of days on which something rests are looked at though the days aren't drawn."""
+    if not is_here("ssh-keygen", "a fleet that signs"):
+        return
+    signers, fleet = signers_of(place, "ann", "web-1", "web-2"), place / "fleet"
+    folders = [day(fleet / "web-1", number, RIGHT) for number in range(3)]
+    dossier("audit", *folders, day(fleet / "web-2", 0, RIGHT, client="192.0.2.11"))
+    log = log_of(place, "machine,time\n" + "".join(f"web-1,{folder.name}T12:00:00Z\n" for folder in folders))
+    pages, answer = year_of(place, *fleet.iterdir()), place / "answer"
+    dossier("events", "--split", answer, log, fleet / "web-1")
+    dossier("sign", "--key", place / "ann", pages, answer)
+    for key, words in (("web-1", ""), ("ann", ""), ("web-2", OWN), ("", "the signature doesn't fit")):
+        for folder in folders:
+            sign(place, key or "ann", folder / ("audit.json" if key else "claim.json"))
+            if not key:
+                (folder / "claim.json.sig").rename(folder / "audit.json.sig")
+        for folder in pages, answer:
+            status, out, _ = dossier(*"verify --sample 1 --seed x --as-signed --signers".split(), signers, folder, fleet)
+            check(f"{folder.name} with days by {key or 'no key'}", status=(status, int(bool(words))), number=(
+                out.decode().count(words) if words else 0, len(folders) if words else 0))
