@@ -110,7 +110,10 @@ def read_typed(name: str, kind: Any, data: bytes) -> Any:
 
 
 def mangled(name: str, why: str) -> Fault:
-    return fault(f"{name} isn't one that is taken ({why[:200].strip() or 'as a whole'})")
+    return fault(f"{name} {NOT_TAKEN} ({why[:200].strip() or 'as a whole'})")
+
+
+NOT_TAKEN = "isn't one that is taken"
 
 
 def typed(kind: Any, value: Any) -> Any:

@@ -24,7 +24,7 @@ from ..folder.result import MISSING, MAX_FOLDERS, NOT_COUNTED, Told, Year
 from ..folder.table import Table
 from ..premise.leap import record_by
 from ..records import replace
-from ..schema import is_text, is_time, read_typed, said, typed
+from ..schema import NOT_TAKEN, is_text, is_time, read_typed, said, typed
 from ..text import plain
 from ..units import DAY, day_of, seconds_of
 from ..verdict.sentences import reason
@@ -254,7 +254,8 @@ def day_folders(wanted: YearCall, folder: Folder, name: str) -> Iterator[DayFold
         if by == NOBODY:  # (what was found since doesn't count, and is told)
             unknown, record = found_since(wanted.known, record), None
     except Fault as error:
-        yield DayFolder(Told(named, NOT_COUNTED, in_a_line(name), plain(error.words)))
+        words = "".join(error.words.partition(NOT_TAKEN)[:2])  # (which name in it isn't may be a stranger's sentence)
+        yield DayFolder(Told(named, NOT_COUNTED, in_a_line(name), plain(words)))
         return
     if record is None or record.refusal:
         if unknown == UNKNOWN and wanted.signers.given is not None and wanted.is_namesake(folder.path):

@@ -881,3 +881,16 @@ def test_signatures_beside_a_sample(place: Path) -> None:
             status, out, _ = dossier(*"verify --sample 1 --seed x --as-signed --signers".split(), signers, folder, fleet)
             check(f"{folder.name} with days by {key or 'no key'}", status=(status, int(bool(words))), number=(
                 out.decode().count(words) if words else 0, len(folders) if words else 0))
+
+
+def test_words_of_audits(place: Path) -> None:
+    """Which name makes an audit none isn't said on a page that somebody else signs: it may be a sentence."""
+    folder = day(place / "fleet" / "web-1", 0, RIGHT)
+    dossier("audit", folder)
+    record = json.loads((folder / "audit.json").read_text())
+    for what, changed in (("a name", {**record, "Ann saw all of it": 1}),
+                          ("a file", {**record, "inputs": {"Ann saw all of it": "x"}})):
+        (folder / "audit.json").write_text(json.dumps(changed))
+        text = (year_of(place, folder.parent) / f"{called(folder.parent)}.html").read_text().replace("&#39;", "'")
+        check(f"words of an audit that has {what}", said=(
+            [words in text for words in ("audit.json isn't one that is taken<", "Ann saw")], [True, False]))
