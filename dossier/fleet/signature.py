@@ -54,11 +54,12 @@ class Signature(NamedTuple):
 
 
 class Signers:
-    """Who may sign, as a file of allowed signers says, if one is named; and who signed what with which key, by sums of
-    what is signed and of the signature, of those that were looked at side by side and are good."""
+    """Who may sign, as a file of allowed signers says, if one is named; who signed what with which key, by sums of what
+    is signed and of the signature, of those that were looked at side by side and are good; and what those are called
+    here of whom another word was said."""
 
     def __init__(self, path: str | None):
-        self.seen = dict[bytes, tuple[str, str]]()
+        self.seen, self.called_here = dict[bytes, tuple[str, str]](), dict[str, str]()
         try:
             self.given = data_named(path) if path is not None else None
         except Fault as error:
@@ -116,7 +117,10 @@ class Signers:
         is_its_own = signature.state == GOOD and is_called(signature.signer, machine)
         user, at, host = said.rpartition("@")
         is_said = said == in_a_word(machine) or bool(at) and host == in_a_word(machine) and USER.fullmatch(user)
-        return (said if is_said else in_a_word(signature.signer)) if is_its_own else ""
+        own = in_a_word(signature.signer)
+        if is_its_own and is_said and said != own:
+            self.called_here[said] = own
+        return (said if is_said else own) if is_its_own else ""
 
     def looked_at(self, at: str, on: list[str], machine: str) -> Signature:
         """What `ssh-keygen` says of a private copy of a signature that was made at this time. Of several who have its

@@ -325,6 +325,8 @@ def compared(folder: Folder, known: Known, leaps: LeapList, signers: Signers = S
         unseen += sum(year.signers.values()) if signers.given is None else 0
     wrong = other_page(folder, statements) if statements.pages else ""
     notes = first_of(others, "statement") + renamed(names)
+    notes += first_of([f"signed by {said}, by its statements: that key is called {own} here"
+                       for said, own in sorted(signers.called_here.items())], "name")
     notes += [UNSEEN_OF.format(count(unseen, "day"))] * bool(unseen)
     notes += [] if wrong else [PAGES if statements.pages else ANY_PAGES]
     own = {YEAR, SIGNATURES[YEAR], LIST, *statements.pages, *(stated.file for stated in statements.machines)}

@@ -756,8 +756,9 @@ def test_spoilt_audits(place: Path) -> None:
     for folder in folders:
         sign(place, "web-1", folder / "audit.json")
     audit, whole = folders[1] / "audit.json", (folders[1] / "audit.json").read_bytes()
-    for what, data, files in rows(("a byte more", whole + b"x", []), ("another form", b"{}", []), ("a link", b"", []),
-                                  ("a year", whole, ["year.json"]), ("its signature alone", b"", []), ("none", b"", [])):
+    for what, data, files in rows(
+            ("a byte more", whole + b"x", []), ("another form", b"{}", []), ("a link", b"", []),
+            ("a year", whole, ["year.json"]), ("its signature alone", b"", []), ("none", b"", [])):
         audit.unlink(missing_ok=True)
         if data:
             audit.write_bytes(data)
@@ -878,7 +879,8 @@ def test_signatures_beside_a_sample(place: Path) -> None:
             if not key:
                 (folder / "claim.json.sig").rename(folder / "audit.json.sig")
         for folder in pages, answer:
-            status, out, _ = dossier(*"verify --sample 1 --seed x --as-signed --signers".split(), signers, folder, fleet)
+            drawn = "verify", "--sample", 1, "--seed", "x", "--as-signed"
+            status, out, _ = dossier(*drawn, "--signers", signers, folder, fleet)
             check(f"{folder.name} with days by {key or 'no key'}", status=(status, int(bool(words))), number=(
                 out.decode().count(words) if words else 0, len(folders) if words else 0))
 
@@ -894,3 +896,24 @@ def test_words_of_audits(place: Path) -> None:
         text = (year_of(place, folder.parent) / f"{called(folder.parent)}.html").read_text().replace("&#39;", "'")
         check(f"words of an audit that has {what}", said=(
             [words in text for words in ("audit.json isn't one that is taken<", "Ann saw")], [True, False]))
+
+
+def test_signers_called_otherwise(place: Path) -> None:
+    """If a year calls a signer otherwise than the file of signers that is named, what it is called here is told."""
+    if not is_here("ssh-keygen", "a fleet that signs"):
+        return
+    signers, folder = signers_of(place, "web-1", "ann"), day(place / "fleet" / "web-1", 0, RIGHT)
+    dossier("audit", folder, env={**ENVIRONMENT, "XDG_STATE_HOME": str(place / "own")})
+    sign(place, "web-1", folder / "audit.json")
+    words, whole = "made-again-by-Ann.in-full@web-1", signers.read_text()
+    for name in "web-1", words:
+        signers.write_text(whole.replace("web-1 ", f"{name} ", 1))
+        pages = year_of(place, "--signers", signers, folder.parent, env={
+            **ENVIRONMENT, "XDG_STATE_HOME": str(place / "here")})
+        sign(place, "ann", pages / "year.json")
+        signers.write_text(whole)
+        status, out, _ = dossier("verify", "--as-signed", "--signers", signers, pages, folder.parent)
+        check(f"a year by {name}", status=(status, 0), said=(
+            f"{pages}: (signed by {words}, by its statements: that key is called web-1 here)" in out.decode(),
+            name == words))
+        shutil.rmtree(pages)
