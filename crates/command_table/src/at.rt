@@ -30,7 +30,7 @@ pub(crate) fn declaration<'a>(alloc: Global) -> Result<Command<'a>, AllocError>
 {
     let time = "The moment, as 2026-11-22T06:46:09Z; it may lie outside the claim's span";
     let times = "Tell of each line of FILE, or of standard input, -, when the clock showed it";
-    let covers = "Say how far off the clock can have been, by covers: the exact hull, if slower";
+    let covers = "Say how far off the clock can have been, by covers: narrower, if slower";
     let about = "Print what a capture says about the clock at a moment, or at many";
     evidence_command(alloc, "at", about, HELP)?
         .arg(optional(alloc, "TIME", time))?
