@@ -1,6 +1,6 @@
 -- Which of two readings was first: of two clocks, or of one.
 use Rattle.true_time.proofs.Common.{◌≡◌, ℕ, ℤ, pos, ◌*ℤ◌, ◌-ℤ◌, ◌≤ℤ◌, List, arith, ints, refl, AreSamplesOf, Bounded, ClaimData, Course, Empty, Hull, IsLawful, ReadingData, Sample, Unbounded, hull_of}
-use Rattle.std.proofs.Common.{Bool, true, false, suc, negsuc, ◌+◌, ◌-◌, ◌*◌, ◌≤◌, ◌<◌, ◌+ℤ◌, unsigned_abs, int_lt, nat_le, max, min, subst, sym, ap, ⊎_elim, if◌then◌else◌}
+use Rattle.std.proofs.Common.{Bool, true, false, suc, negsuc, ◌+◌, ◌-◌, ◌*◌, ◌≤◌, ◌<◌, ◌+ℤ◌, unsigned_abs, int_lt, nat_le, ◌==◌, max, min, subst, sym, ap, ⊎_elim, if◌then◌else◌}
 use Rattle.std.proofs.Math.Nat.{div-mul-le_self, le_of_mul-le-mul_left, mul-le-mul_right, mul_comm}
 use Rattle.std.proofs.lemmas.Int.{clamps}
 use Rattle.std.proofs.lemmas.Bool.{cases_lt}
@@ -9,7 +9,7 @@ use Rattle.intersection.specs.Fineness.{times-add, times-times, times_le}
 use Rattle.lemma_base.proofs.Int.{int_lt-true, int_lt-false}
 use Rattle.sample_interval.specs.Moment.{DriftsWithin, Moment, IsInWindow}
 use Rattle.sample_interval.specs.Widening.{IsWidening, billion, widening}
-use Rattle.true_time.specs.Order.{HoldsOrderOfOne, IsAtMostBefore, IsBefore, IsSo, first_by, least_time, most_time, open_by, order_between, order_by_readings, order_of, order_of_near, order_of_one, second_by}
+use Rattle.true_time.specs.Order.{HoldsOrderOfOne, IsAtMostBefore, IsBefore, IsSo, first_by, least_time, most_time, open_by, order_between, order_by_readings, order_of, order_of_near, order_of_one, order_of_touching, second_by}
 use Rattle.true_time.specs.ReadingLine.{are_near}
 use Rattle.true_time.specs.TrueTime.{HoldsTrueTime, IsThen, earliest, latest}
 use Rattle.true_time.specs.When.{HoldsWhen, IsDuring, when_at, when_of}
@@ -158,6 +158,19 @@ reads_before p end begin n a b rate in_order drift at_most at_least =
     let gone = times-add b.time a.time (pos went.0) n (let is = went.1 in omega (arith, ints)) in
     omega (arith, ints)
 
+-- a reading that is no later than another
+reads_no_later : (p n : ℕ) (a b : Moment) → p ≤ 500000000 → DriftsWithin p a b → a.reading ≤ℤ b.reading
+    → IsBefore 0 n n a.time b.time
+reads_no_later p n a b rate drift no_later =
+    let y = unsigned_abs (b.reading -ℤ a.reading) in
+    let is_y : (b.reading -ℤ a.reading) ≡ pos y = omega (arith, ints, clamps) in
+    let change : ((b.reading -ℤ b.time) -ℤ (a.reading -ℤ a.time)) ≡ (pos y -ℤ (b.time -ℤ a.time)) =
+    omega (arith, ints) in
+    let went = goes_on p y (b.time -ℤ a.time) rate
+    (subst (λ (z : ℤ). (billion * unsigned_abs z) ≤ (p * unsigned_abs (b.time -ℤ a.time))) change drift) in
+    let gone = times_le a.time b.time n (let is = went.1 in omega (arith, ints)) in
+    omega (arith, ints)
+
 -- a clock's advance by y parts takes no more true time
 takes : (p q y : ℕ) (time : ℤ) → (q + p) ≡ billion → p ≤ 500000000
     → (billion * unsigned_abs (pos y -ℤ time)) ≤ (p * unsigned_abs time)
@@ -255,36 +268,51 @@ module _ (n : ℕ) (time time' : ℤ) where
 module _ (wide : (ppb distance : ℕ) → ppb < billion → IsWidening ppb distance (widening ppb distance)) (p : ℕ)
     (rate : p ≤ 500000000) (r r' : ReadingData) (n : ℕ) (a b : Moment) (drift : DriftsWithin p a b)
     (shown : IsInWindow n (pos r.begin) (pos r.end) a.reading)
-    (shown' : IsInWindow n (pos r'.begin) (pos r'.end) b.reading) where
-  by_readings : (is_first is_second : Bool) → (is_first ≡ true → r.end ≤ r'.begin)
-      → (is_second ≡ true → r'.end ≤ r.begin) → (is_first ≡ false → r'.begin ≤ r.end)
-      → (is_second ≡ false → r.begin ≤ r'.end) → (order : Order) → IsSo order n n a.time b.time
-      → IsSo (if is_first then first_by (least_time p (r'.begin - r.end)) order
-      else if is_second then second_by (least_time p (r.begin - r'.end)) order
-      else open_by (most_time p (r'.end - r.begin)) (most_time p (r.end - r'.begin)) order) n n a.time b.time
-  by_readings true is_second is_1 is_2 isnt_1 isnt_2 order so = first_is_so n a.time b.time _ order
-      (reads_before p r.end r'.begin n a b rate (is_1 refl) drift shown.1 shown'.0) so
-  by_readings false true is_1 is_2 isnt_1 isnt_2 order so = second_is_so n a.time b.time _ order
-      (reads_before p r'.end r.begin n b a rate (is_2 refl) (drift_back p a b drift) shown'.1 shown.0) so
-  by_readings false false is_1 is_2 isnt_1 isnt_2 order so =
-      let slow : p < billion = omega arith in
-      open_is_so n a.time b.time _ _ order
-      (ends_after p r'.end r.begin n a b rate (isnt_2 refl) (wide p (r'.end - r.begin) slow) drift shown.0 shown'.1)
-      (ends_after p r.end r'.begin n b a rate (isnt_1 refl) (wide p (r.end - r'.begin) slow) (drift_back p a b drift)
-      shown'.0 shown.1) so
+    (shown' : IsInWindow n (pos r'.begin) (pos r'.end) b.reading)
+    (next : r.end ≡ r'.begin + 1 → a.reading ≤ℤ b.reading) (last : r'.end ≡ r.begin + 1 → b.reading ≤ℤ a.reading)
+  where
+    touching : (is_next is_last : Bool) → (is_next ≡ true → r.end ≡ r'.begin + 1)
+        → (is_last ≡ true → r'.end ≡ r.begin + 1) → r'.begin ≤ r.end → r.begin ≤ r'.end → (order : Order)
+        → IsSo order n n a.time b.time
+        → IsSo (if is_next then first_by 0 order else if is_last then second_by 0 order
+        else open_by (most_time p (r'.end - r.begin)) (most_time p (r.end - r'.begin)) order) n n a.time b.time
+    touching true is_last is_1 is_2 from to order so = first_is_so n a.time b.time 0 order
+        (reads_no_later p n a b rate drift (next (is_1 refl))) so
+    touching false true is_1 is_2 from to order so = second_is_so n a.time b.time 0 order
+        (reads_no_later p n b a rate (drift_back p a b drift) (last (is_2 refl))) so
+    touching false false is_1 is_2 from to order so =
+        let slow : p < billion = omega arith in
+        open_is_so n a.time b.time _ _ order
+        (ends_after p r'.end r.begin n a b rate to (wide p (r'.end - r.begin) slow) drift shown.0 shown'.1)
+        (ends_after p r.end r'.begin n b a rate from (wide p (r.end - r'.begin) slow) (drift_back p a b drift)
+        shown'.0 shown.1) so
 
-  one_by_readings : (order : Order) → IsSo order n n a.time b.time
-      → IsSo (order_by_readings p r r' order) n n a.time b.time
-  one_by_readings = by_readings (nat_le r.end r'.begin) (nat_le r'.end r.begin)
-      (λ is. grind (arith, nat_tests)) (λ is. grind (arith, nat_tests))
-      (λ isnt. grind (arith, nat_tests)) (λ isnt. grind (arith, nat_tests))
+    by_readings : (is_first is_second : Bool) → (is_first ≡ true → r.end ≤ r'.begin)
+        → (is_second ≡ true → r'.end ≤ r.begin) → (is_first ≡ false → r'.begin ≤ r.end)
+        → (is_second ≡ false → r.begin ≤ r'.end) → (order : Order) → IsSo order n n a.time b.time
+        → IsSo (if is_first then first_by (least_time p (r'.begin - r.end)) order
+        else if is_second then second_by (least_time p (r.begin - r'.end)) order
+        else order_of_touching p r r' order) n n a.time b.time
+    by_readings true is_second is_1 is_2 isnt_1 isnt_2 order so = first_is_so n a.time b.time _ order
+        (reads_before p r.end r'.begin n a b rate (is_1 refl) drift shown.1 shown'.0) so
+    by_readings false true is_1 is_2 isnt_1 isnt_2 order so = second_is_so n a.time b.time _ order
+        (reads_before p r'.end r.begin n b a rate (is_2 refl) (drift_back p a b drift) shown'.1 shown.0) so
+    by_readings false false is_1 is_2 isnt_1 isnt_2 order so =
+        touching (r.end == r'.begin + 1) (r'.end == r.begin + 1) (λ is. grind (arith, nat_tests))
+        (λ is. grind (arith, nat_tests)) (isnt_1 refl) (isnt_2 refl) order so
 
-  one_is_so : (order : Order) → IsSo order n n a.time b.time → IsSo (order_of_one p r r' order) n n a.time b.time
-  one_is_so Never so = so
-  one_is_so Unknown so = one_by_readings Unknown so
-  one_is_so (FirstBefore ticks) so = one_by_readings (FirstBefore ticks) so
-  one_is_so (SecondBefore ticks) so = one_by_readings (SecondBefore ticks) so
-  one_is_so (Open earlier later) so = one_by_readings (Open earlier later) so
+    one_by_readings : (order : Order) → IsSo order n n a.time b.time
+        → IsSo (order_by_readings p r r' order) n n a.time b.time
+    one_by_readings = by_readings (nat_le r.end r'.begin) (nat_le r'.end r.begin)
+        (λ is. grind (arith, nat_tests)) (λ is. grind (arith, nat_tests))
+        (λ isnt. grind (arith, nat_tests)) (λ isnt. grind (arith, nat_tests))
+
+    one_is_so : (order : Order) → IsSo order n n a.time b.time → IsSo (order_of_one p r r' order) n n a.time b.time
+    one_is_so Never so = so
+    one_is_so Unknown so = one_by_readings Unknown so
+    one_is_so (FirstBefore ticks) so = one_by_readings (FirstBefore ticks) so
+    one_is_so (SecondBefore ticks) so = one_by_readings (SecondBefore ticks) so
+    one_is_so (Open earlier later) so = one_by_readings (Open earlier later) so
 
 -- the same of one clock in one course
 pub one_holds : ((ppb distance : ℕ) → ppb < billion → IsWidening ppb distance (widening ppb distance))
@@ -306,6 +334,6 @@ one_holds wide held claim samples r r' lawful of_claim xs course course' same tw
     (one_is_so wide claim.drift_ppb lawful.drift_in_range r r' course.fineness course.observation course'.observation
     twice.drift shown
     (subst (λ (n' : ℕ). IsInWindow n' (pos r'.begin) (pos r'.end) course'.observation.reading) twice.same_fineness
-    shown')
+    shown') twice.touches_next twice.touches_last
     (order_of first second)
     (subst (λ (n' : ℕ). IsSo (order_of first second) course.fineness n' time time') twice.same_fineness so))

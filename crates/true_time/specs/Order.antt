@@ -2,7 +2,7 @@
 --
 -- Two courses of events may have different finenesses: a time in parts of 1/n tick and one in parts
 -- of 1/n' tick are compared as parts of 1/(n * n') tick.
-use Rattle.std.specs.Prelude.{◌≡◌, ℕ, ◌+◌, ◌-◌, ◌*◌, ◌/◌, ◌^◌, max, min, nat_le, ℤ, ◌≤◌, pos, ◌+ℤ◌, ◌-ℤ◌, ◌*ℤ◌, ◌≤ℤ◌, int_lt, unsigned_abs, ⊤, Bool, ◌&&◌, List, if◌then◌else◌}
+use Rattle.std.specs.Prelude.{◌≡◌, ℕ, ◌+◌, ◌-◌, ◌*◌, ◌/◌, ◌^◌, ◌==◌, max, min, nat_le, ℤ, ◌≤◌, pos, ◌+ℤ◌, ◌-ℤ◌, ◌*ℤ◌, ◌≤ℤ◌, int_lt, unsigned_abs, ⊤, Bool, ◌&&◌, List, if◌then◌else◌}
 use Rattle.sample_interval.specs.Moment.{DriftsWithin}
 use Rattle.sample_interval.specs.Widening.{billion, widening}
 use Rattle.true_time.specs.Common.{Course, Fits, IsObservedIn, samples_of, ClaimData, Exchange, ReadingData, Sample}
@@ -71,13 +71,21 @@ open_by earlier later (FirstBefore ticks) = FirstBefore ticks
 open_by earlier later (SecondBefore ticks) = SecondBefore ticks
 open_by earlier later Never = Never
 
--- The order of two readings of one clock, of which an order is known: that of their ticks, or an
--- open one if one begins before the other ends.
+-- The order of two readings of one clock, of which an order is known, if one begins at a tick before
+-- the last one of the other: where they share no more than what is between these two ticks, one
+-- ends there and the other begins; else it is an open one.
+abbrev pub order_of_touching : ℕ → ReadingData → ReadingData → Order → Order
+order_of_touching ppb r r' order =
+    if r.end == r'.begin + 1 then first_by 0 order
+    else if r'.end == r.begin + 1 then second_by 0 order
+    else open_by (most_time ppb (r'.end - r.begin)) (most_time ppb (r.end - r'.begin)) order
+
+-- the order of two readings of one clock, of which an order is known: that of their ticks
 abbrev pub order_by_readings : ℕ → ReadingData → ReadingData → Order → Order
 order_by_readings ppb r r' order =
     if nat_le r.end r'.begin then first_by (least_time ppb (r'.begin - r.end)) order
     else if nat_le r'.end r.begin then second_by (least_time ppb (r.begin - r'.end)) order
-    else open_by (most_time ppb (r'.end - r.begin)) (most_time ppb (r.end - r'.begin)) order
+    else order_of_touching ppb r r' order
 
 -- the order of two readings of one clock, if by when they were it is this one
 abbrev pub order_of_one : ℕ → ReadingData → ReadingData → Order → Order
@@ -109,18 +117,24 @@ IsOrderOf order course course' = IsSo order course.fineness course'.fineness
     course.observation.time course'.observation.time
 
 -- One clock in one course of events, observed twice: two courses that fit, between whose
--- observations its error drifts as between any two moments.
-pub record IsReadTwice (claim : ClaimData) (xs : List Exchange) (course course' : Course)
-    : Type 0 where
+-- observations its error drifts as between any two moments. It shows both readings as they are
+-- written, in whole nanoseconds, each of over four ticks: so of two whose ticks are one tick too
+-- many, since ends are rounded outwards, one ends where the other begins.
+pub record IsReadTwice (claim : ClaimData) (xs : List Exchange) (r r' : ReadingData)
+    (course course' : Course) : Type 0 where
   pub first : Fits claim xs course
   pub second : Fits claim xs course'
   pub same_fineness : course'.fineness ≡ course.fineness
   pub drift : DriftsWithin claim.drift_ppb course.observation course'.observation
+  pub touches_next : r.end ≡ r'.begin + 1
+      → course.observation.reading ≤ℤ course'.observation.reading
+  pub touches_last : r'.end ≡ r.begin + 1
+      → course'.observation.reading ≤ℤ course.observation.reading
 
 -- so it is in every course that fits exchanges with these samples, in which the clock shows both
 abbrev pub HoldsOrderOfOne : ClaimData → List Sample → ReadingData → ReadingData → Order → Type 0
 HoldsOrderOfOne claim samples r r' order = (xs : List Exchange) (course course' : Course)
-    → samples ≡ samples_of xs claim → IsReadTwice claim xs course course'
+    → samples ≡ samples_of xs claim → IsReadTwice claim xs r r' course course'
     → IsObservedIn course (pos r.begin) (pos r.end)
     → IsObservedIn course' (pos r'.begin) (pos r'.end)
     → IsOrderOf order course course'

@@ -167,8 +167,29 @@ fn open_by(earlier: u128, later: u128, order: Order) -> Order
     }
 }
 
-/// The order of two readings of one clock, of which an order is known: that of their ticks, or an
-/// open one if one begins before the other ends.
+/// The order of two readings of one clock, of which an order is known, if each begins before the
+/// other ends: they may touch, since ends are rounded outwards to ticks.
+fn order_of_touching(drift_ppb: u32, first: (u64, u64), second: (u64, u64), order: Order) -> Order
+    requires rate { IsRate drift_ppb }
+    requires short { IsShort order }
+    requires first { first.0 < second.1 }
+    requires second { second.0 < first.1 }
+    ensures exact { result ≡ spec.order_of_touching drift_ppb
+        (reading_over first.0 first.1) (reading_over second.0 second.1) order }
+    ensures short { IsShort result }
+{
+    if first.1 == second.0 + 1 {
+        first_by(0, order)
+    } else if second.1 == first.0 + 1 {
+        second_by(0, order)
+    } else {
+        let earlier = most_time(drift_ppb, second.1.saturating_sub(first.0));
+        let later = most_time(drift_ppb, first.1.saturating_sub(second.0));
+        open_by(earlier, later, order)
+    }
+}
+
+/// The order of two readings of one clock, of which an order is known: that of their ticks.
 fn order_by_readings(drift_ppb: u32, first: (u64, u64), second: (u64, u64), order: Order) -> Order
     requires rate { IsRate drift_ppb }
     requires short { IsShort order }
@@ -181,9 +202,7 @@ fn order_by_readings(drift_ppb: u32, first: (u64, u64), second: (u64, u64), orde
     } else if second.1 <= first.0 {
         second_by(least_time(drift_ppb, first.0 - second.1), order)
     } else {
-        let earlier = most_time(drift_ppb, second.1.saturating_sub(first.0));
-        let later = most_time(drift_ppb, first.1.saturating_sub(second.0));
-        open_by(earlier, later, order)
+        order_of_touching(drift_ppb, first, second, order)
     }
 }
 
