@@ -47,7 +47,7 @@ def at(evidence: Evidence, *words: object) -> Answer:
     """The servers' intervals at a moment, and the hull; while the clock shows a reading, and between which true time
     lay; or many readings."""
     if words[0] == "--times":
-        return moments(evidence, Path(str(words[1])).read_text())
+        return moments(evidence, Path(str(words[1])).read_text(), "--covers" in words)
     time = str(words[0])
     if "--covers" in words:
         return covered(evidence, time)
@@ -63,7 +63,7 @@ def covered(evidence: Evidence, time: str) -> Answer:
     """The hull by covers over a reading, and between which true time lay."""
     if not (ticks := reading_of(time)):
         return 5, []
-    hull = by_covers.joined(evidence.claim, evidence.samples, *ticks)
+    hull = by_covers.Joined(evidence.claim, evidence.samples).over(*ticks)
     return 0, [written(MOMENT, "hull", *rules.hull_fields(hull)), *([true_times(ticks, hull)] if hull else [])]
 
 
@@ -101,15 +101,23 @@ def reading_of(text: str) -> tuple[int, int] | None:
     return second * TICKS + digits * TICKS // parts, second * TICKS + ceiling((digits + 1) * TICKS, parts)
 
 
-def moments(evidence: Evidence, text: str) -> Answer:
-    """Of each line, a reading, the hull over its ticks, and between which true time lay."""
-    lines = []
+def nanoseconds_of(text: str) -> tuple[int, int]:
+    """The Unix nanoseconds from which a reading stands, and to which: its ticks lie no further out than one."""
+    ticks, digits = reading_of(text), len((READING.fullmatch(text) or [""] * 4)[3] or "")
+    assert ticks, text
+    begin = ceiling(ticks[0] * 10**9, TICKS)
+    return begin, begin + 10**(9 - digits)
+
+
+def moments(evidence: Evidence, text: str, covers: bool = False) -> Answer:
+    """Of each line, a reading, the hull over its ticks, by covers if it is asked so, and between which true time lay."""
+    lines, hulls = list[str](), by_covers.Joined(evidence.claim, evidence.samples) if covers else evidence.hulls
     for number, line in enumerate(text.removesuffix("\n").split("\n") if text else [], 1):
         if number > 1_000_000:
             return 2, ["times 2 too-many"]
         if not (ticks := reading_of(line)):
             return 2, [f"times 1 time line {number}"]
-        hull = evidence.hulls.over(*ticks)
+        hull = hulls.over(*ticks)
         true = f" {true_times(ticks, hull)}" if hull else ""
         lines.append(f"reading {line} hull {rules.hull_words(hull)}{true}")
     return 0, lines
@@ -142,9 +150,10 @@ def order(first: Evidence, second: Evidence, time: str, other_time: str) -> Answ
         most = [other_latest - earliest, latest - other_earliest]
     if first is second:
         drift, gaps = first.claim["drift_ppb"], (others[0] - ticks[1], ticks[0] - others[1])
-        if max(gaps) >= 0:
-            which = gaps.index(max(gaps))
-            least = gaps[which] * 10**9 // (10**9 + drift)
+        (begin, end), (other_begin, other_end) = nanoseconds_of(time), nanoseconds_of(other_time)
+        if end <= other_begin or other_end <= begin:
+            which = 0 if end <= other_begin else 1
+            least = max(0, gaps[which]) * 10**9 // (10**9 + drift)
             return before([max([least, *apart[which:which + 1]]) if k == which else -1 for k in range(2)])
         own = [ceiling(ends * 10**9, 10**9 - drift) for ends in (others[1] - ticks[0], ticks[1] - others[0])]
         most = [min(pair) for pair in zip(own, most or own)]

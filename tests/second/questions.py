@@ -352,8 +352,10 @@ def at_case(question: Question) -> Iterator[Case]:
         for words in (time,), (time, "--covers"):
             yield f"at {words}", differs(question.call("at", *words), *answers.at(question.evidence, *words))
     times = "".join(f"{reading}\n" for reading in scenes.readings(random.Random(str(question.span)), question.claim))
-    ran = question.call("at", "--times", "-", given=times.encode())
-    yield f"at --times of {times.split()}", differs(ran, *answers.moments(question.evidence, times))
+    for covers in (), ("--covers",):
+        ran = question.call("at", "--times", "-", *covers, given=times.encode())
+        wanted = answers.moments(question.evidence, times, bool(covers))
+        yield f"at --times {covers} of {times.split()}", differs(ran, *wanted)
     yield from order_case(question, times.split())
 
 

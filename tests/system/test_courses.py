@@ -1,7 +1,7 @@
 """A plain reading of the theorem. It makes courses of events at random, writes their captures, and sees that
 
 - wherever `check` says yes the clock was within the bound in that course, and it says yes to what `find` gives
-- an event that the clock logged was between the true times that `at --times` has for it, and `at --covers`
+- an event that the clock logged was between the true times that `at --times` has for it, and with `--covers`
 - the hulls of `at` and `envelope` hold the clock's error, and the bound that `envelope` gives is the least for `find`
 - under the bound of `envelope --least` there is a certificate, one nanosecond below none
 - all of that holds where requests are stamped early and replies late, and not with the signs turned
@@ -116,8 +116,8 @@ def hulls_wrong(course: Course, samples: list[Sample], rng: random.Random) -> li
 
 
 def events_wrong(course: Course, samples: list[Sample], folder: str, capture: str, rng: random.Random) -> list[str]:
-    """What is wrong with `at --times` for events of the course, which the clock logged with some digits, and with `at
-    --covers` for some: its lines, and where true time isn't between the two."""
+    """What is wrong with `at --times` for events of the course, which the clock logged with some digits, and with
+    --covers too: its lines, and where true time isn't between the two."""
     events = list[tuple[int, str]]()
     for time, error in course.clock.error.items():
         parts = 10 ** (digits := rng.randint(0, 9))
@@ -129,15 +129,13 @@ def events_wrong(course: Course, samples: list[Sample], folder: str, capture: st
     rng.shuffle(events)
     text = "".join(f"{logged}\n" for _, logged in events)
     evidence, claim = by_rules(course.claim(0), samples), written(folder, "claim", course.claim(0))
-    status, lines = answers.moments(evidence, text)
-    asked = [("--times", "-"), *((logged, "--covers") for _, logged in events[:2])]
-    covered = [answers.covered(evidence, logged)[1] for _, logged in events[:2]]
-    for words, said in zip(asked, [lines, *covered], strict=True):
-        ran = run([PROGRAM, "at", claim, capture, *words], given=text.encode())
-        if ran != (status, "".join(f"{line}\n" for line in said).encode(), b""):
-            return [f"at {words}: {ran} in place of {said}"]
-    told = [*zip(events, lines, strict=True), *((event, said[-1]) for event, said in zip(events, covered))]
-    ends = [(time, line.split(" ")[-2:], line) for (time, _), line in told]
+    ends = list[tuple[int, list[str], str]]()
+    for covers in (), ("--covers",):
+        status, lines = answers.moments(evidence, text, bool(covers))
+        ran = run([PROGRAM, "at", claim, capture, "--times", "-", *covers], given=text.encode())
+        if ran != (status, "".join(f"{line}\n" for line in lines).encode(), b""):
+            return [f"at --times {covers}: {ran} in place of {lines}"]
+        ends += [(time, line.split(" ")[-2:], line) for (time, _), line in zip(events, lines, strict=True)]
     return [f"an event at {time} of 1/{FINE} tick: {line}" for time, (earliest, latest), line in ends
             if latest == "empty" or earliest != "hull" and not FINE * int(earliest) <= time <= FINE * int(latest)]
 

@@ -1,15 +1,47 @@
--- What a hull by covers shows.
-use Rattle.audit.proofs.Common.{◌≡◌, Some, true, refl, subst, arith, nat_tests, EvidenceData, Style, Yes, whole_text}
-use Rattle.audit.specs.Common.{ReadingData}
-use Rattle.audit.specs.ByCovers.{hull_report, hull_text, is_of, reading_of}
+-- What hulls by covers show.
+use Rattle.std.proofs.lemmas.List.Elements.{All-cons, All-head, All-nil, All-tail}
+use Rattle.audit.proofs.Common.{◌≡◌, ◌++◌, ◌∷◌, [], List, All, Some, true, and_parts, refl, EvidenceData, ShowsOf, Style, Yes, whole_text}
+use Rattle.audit.specs.ByCovers.{AreHeldAt, IsHeldAt, IsHeldOver, are_of, hull_report, hull_text, hulls_report, hulls_text, is_of, readings_by_covers}
+use Rattle.audit.specs.Check.{GiveSecond}
+use Rattle.audit.specs.Common.{ReadingData, times_read}
+use Rattle.audit.specs.Second.{times_said, times_second}
 use Rattle.audit.specs.declared.question.by_covers.HullOver.{HullOver}
-
-is_own : (found : HullOver) → is_of (reading_of found) found ≡ true
-is_own found = grind (arith, nat_tests)
+use Rattle.audit.proofs.Showing.{of_inputs, of_second}
 
 -- the report on the hull of a reading is its text
-pub report_is : (style : Style) (r : ReadingData) (e : EvidenceData) (found : HullOver) → reading_of found ≡ r
-    → hull_report style r e (Some found) ≡ whole_text (hull_text style e found) Yes
-report_is style r e found same =
-    subst (λ (it : ReadingData). hull_report style it e (Some found) ≡ whole_text (hull_text style e found) Yes) same
-    (rw (is_own found) refl)
+pub report_is : (style : Style) (r : ReadingData) (e : EvidenceData) (found : HullOver) → is_of r found ≡ true
+    → hull_report style r e (Some (found ∷ [])) ≡ whole_text (hull_text style e found) Yes
+report_is style r e found same = rw same refl
+
+-- that on the hulls of many is theirs
+pub reports_are : (style : Style) (readings : List ReadingData) (found : List HullOver) → are_of readings found ≡ true
+    → hulls_report style (times_said readings) (Some found) ≡ whole_text (hulls_text style readings found) Yes
+reports_are style readings found same = rw same refl
+
+-- hulls of readings, and one more
+pub one_more : (readings : List ReadingData) (found : List HullOver) (r : ReadingData) (one : HullOver)
+    → are_of readings found ≡ true → is_of r one ≡ true → are_of (readings ++ r ∷ []) (found ++ one ∷ []) ≡ true
+one_more [] [] r one before last = rw last refl
+one_more [] (f ∷ found) r one before last = absurd cc
+one_more (r' ∷ readings) [] r one before last = absurd cc
+one_more (r' ∷ readings) (f ∷ found) r one before last =
+    let both = and_parts (is_of r' f) (are_of readings found) before in
+    rw (both.0, one_more readings found r one both.1 last) refl
+
+-- each reading has a hull among those that were found
+pub are_held_at : (e : EvidenceData) (readings : List ReadingData) (found : List HullOver) → are_of readings found ≡ true
+    → All (IsHeldOver e) found → AreHeldAt readings e
+are_held_at e [] found same held = All-nil (λ it. IsHeldAt it e)
+are_held_at e (r ∷ readings) [] same held = absurd cc
+are_held_at e (r ∷ readings) (f ∷ found) same held =
+    let both = and_parts (is_of r f) (are_of readings found) same in
+    All-cons (λ it. IsHeldAt it e) r readings (f, both.0, All-head (IsHeldOver e) f found held)
+    (are_held_at e readings found both.1 (All-tail (IsHeldOver e) f found held))
+
+-- the bytes of any inputs that say the readings and give the evidence show the same
+pub held_shown : (e : EvidenceData) (said : List ReadingData) → AreHeldAt said e →
+    ShowsOf readings_by_covers times_second (times_said said) e Yes
+held_shown e said h claim second capture are =
+    of_inputs e (GiveSecond times_read AreHeldAt second.remaining)
+    (of_second times_said (λ t u same. cc) said times_read AreHeldAt e h second.remaining are.second_is)
+    claim second capture are

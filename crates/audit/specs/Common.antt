@@ -7,6 +7,7 @@ pub use Rattle.audit_text.specs.Nothing.{nothing_text}
 pub use Rattle.audit_text.specs.Parts.{parts_text}
 pub use Rattle.audit_text.specs.Refutation.{no_refutation_text, refuted_text}
 pub use Rattle.audit_text.specs.Samples.{samples_text}
+pub use Rattle.audit_text.specs.Table.{rows_from}
 pub use Rattle.audit_text.specs.Settlement.{conflicts_text, evidence_text, open_text}
 pub use Rattle.audit_text.specs.declared.check_report.Findings.{Findings}
 pub use Rattle.audit_text.specs.declared.verdict_line.AnyVerdict.{AnyVerdict}
@@ -52,7 +53,7 @@ pub use Rattle.cover_checker.specs.Traceability.{IsTraceable as IsTraceableToAll
 pub use Rattle.cover_checker.specs.Verdict.{IsVerdict as IsCoverVerdict}
 unfoldable pub use Rattle.cover_checker.specs.VerdictTest.{verdict_of as cover_verdict_of}
 pub use Rattle.cover_checker.specs.declared.verdict.CoverVerdict.{CoverVerdict}
-pub use Rattle.cover_finder.specs.Hull.{HoldsError as HoldsErrorByCovers}
+pub use Rattle.cover_finder.specs.Hull.{HoldsError as HoldsErrorByCovers, IsFinderFor}
 pub use Rattle.cover_finder.specs.Answer.{AnswerData, IsShownByCoversAlone, answer_data, of_finder, shown_by_covers}
 pub use Rattle.era_unfold.specs.Nanoseconds.{nanoseconds_per_second}
 pub use Rattle.era_unfold.specs.Ratio.{IsCeiling, IsFloor, ceiling_of, floor_of}
@@ -80,7 +81,7 @@ pub use Rattle.finder.specs.declared.fault.FindFault.TheVariants.{TooManyPieces}
 pub use Rattle.finder.specs.declared.least.LeastBound.{LeastBound}
 pub use Rattle.frame_reader.specs.Frame.{Fields, HoldsDatagram, datagram_of, tag_bytes}
 pub use Rattle.intersection.specs.declared.kinds.Hull.{Hull}
-pub use Rattle.intersection.specs.declared.kinds.Hull.TheVariants.{Empty}
+pub use Rattle.intersection.specs.declared.kinds.Hull.TheVariants.{Empty, Unbounded}
 pub use Rattle.json_text.specs.Text.{parsed}
 pub use Rattle.line_writer.specs.declared.field.Style.{Style}
 pub use Rattle.line_writer.specs.declared.field.Style.TheVariants.{Human, Plain}
@@ -112,7 +113,7 @@ pub use Rattle.report.specs.Input.{most_read}
 pub use Rattle.report.specs.Output.{IsReady, fresh_output}
 pub use Rattle.report.specs.Publication.{IsMadeFor, IsUnwritten, Publishes, PutsReady, Ready}
 pub use Rattle.report.specs.Reading.{IsFromOutside, Reads}
-pub use Rattle.reading_time.specs.Reading.{ReadingData}
+pub use Rattle.reading_time.specs.Reading.{IsLawfulReading, ReadingData, reading_data}
 pub use Rattle.reading_time.specs.Times.{AreLawfulTimes, times_data}
 pub use Rattle.report.specs.RefutationInput.{max_refutation, refutation_read}
 pub use Rattle.report.specs.TimesInput.{max_times, times_read}
@@ -146,7 +147,7 @@ pub use Rattle.std.specs.Option.{option_map}
 pub use Rattle.std.specs.Result.{result_map_both}
 pub use Rattle.true_time.specs.Order.{HoldsOrderOfOne, IsShort, IsSo, order_of, order_of_one}
 pub use Rattle.true_time.specs.OrderLine.{order_text}
-pub use Rattle.true_time.specs.ReadingLine.{readings_text}
+pub use Rattle.true_time.specs.ReadingLine.{reading_heading, reading_line, readings_text}
 pub use Rattle.true_time.specs.TrueText.{true_text}
 pub use Rattle.true_time.specs.TrueTime.{HoldsTrueTime, IsThen, hull_of, parts_of, reading_over}
 pub use Rattle.true_time.specs.When.{HoldsWhen, IsDuring, when_at}

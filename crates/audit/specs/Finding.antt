@@ -1,5 +1,5 @@
 -- What a finding shows of the evidence, and of the bytes that give it.
-use Rattle.std.specs.Prelude.{◌≡◌, ◌⊎◌, ℕ, List, Result, Ok, Err, IfSome}
+use Rattle.std.specs.Prelude.{◌≡◌, ◌⊎◌, ℕ, List, All, Result, Ok, Err, IfSome}
 use Rattle.audit.specs.Common.{FeedState, SettlesFit, HasTooManyPieces, AnswerData, FindFault, TooManyPieces}
 use Rattle.finder.specs.declared.fault.FindFault.TheVariants.{Memory}
 use Rattle.audit.specs.ByCovers.{IsHeldOver}
@@ -20,7 +20,7 @@ pub record IsFindingOf (e : EvidenceData) (finding : Finding) : Type 0 where
   pub settled : IsSettlementOf e finding.settled
   pub least : IfSome finding.least (IsLeastBoundOf e)
   pub fits : IfSome finding.fits (SettlesFit e.claim e.collection.exchanges)
-  pub over : IfSome finding.over (IsHeldOver e)
+  pub over : IfSome finding.over (All (IsHeldOver e))
 
 -- ---- what it shows of bytes
 
@@ -36,7 +36,7 @@ pub record IsFindingFrom (finding : Finding) (claim capture : List ℕ) : Type 0
   pub fits : IfSome finding.fits (λ told.
       GiveEvidence (λ e. SettlesFit e.claim e.collection.exchanges told) claim capture)
   pub over : IfSome finding.over (λ found.
-      GiveEvidence (λ e. IsHeldOver e found) claim capture)
+      GiveEvidence (λ e. All (IsHeldOver e) found) claim capture)
 
 -- the same of inputs, if their bytes are known
 abbrev pub ShowsFinding : Finding → FeedState → FeedState → Type 0

@@ -1,6 +1,6 @@
 -- What a question is: the report that is made of a second input and evidence, and what its outcome
 -- shows of the bytes of the inputs. Each question stands in a module of its own.
-use Rattle.std.specs.Prelude.{◌≡◌, Bool, Option, None, Result, Ok, Err, IfSome}
+use Rattle.std.specs.Prelude.{◌≡◌, Bool, List, Option, None, Result, Ok, Err, IfSome}
 use Rattle.audit.specs.Common.{FeedState, AnswerData, LeastCarried, FindFault, Style, Plain, claim_read, Report, Outcome, Yes, No}
 use Rattle.finder.specs.declared.fault.FindFault.TheVariants.{Memory}
 use Rattle.audit.specs.CaptureInput.{capture_read}
@@ -9,13 +9,13 @@ use Rattle.audit.specs.declared.question.by_covers.HullOver.{HullOver}
 use Rattle.audit.specs.Second.{SecondData, SecondKind, second_read}
 
 -- What was found that has no definition of its own: what settles a claim, or why it isn't known;
--- the least bound that a certificate carries, whether any course of events fits, and the hull by
--- covers over a reading, if these were looked for. `specs/Finding` says what it shows.
+-- the least bound that a certificate carries, whether any course of events fits, and the hulls by
+-- covers over readings, if these were looked for. `specs/Finding` says what it shows.
 pub record Finding : Type 0 where
   pub settled : Result AnswerData FindFault
   pub least : Option (Option LeastCarried)
   pub fits : Option Bool
-  pub over : Option HullOver
+  pub over : Option (List HullOver)
 
 -- nothing was found, for want of memory or because nothing was looked for
 abbrev pub no_finding : Finding

@@ -1,8 +1,8 @@
 -- What is asked of a claim and a capture alone, without a second input.
-use Rattle.std.specs.Prelude.{◌≡◌, []}
+use Rattle.std.specs.Prelude.{◌≡◌, [], ◌∷◌, true}
 use Rattle.audit.specs.Common.{found_data as data_of, Style}
 use Rattle.audit.specs.At.{at}
-use Rattle.audit.specs.ByCovers.{at_by_covers, hull_finding, reading_of}
+use Rattle.audit.specs.ByCovers.{at_by_covers, hulls_finding, is_of}
 use Rattle.audit.specs.Envelope.{IsEnvelopeFor, envelope, envelope_finding}
 use Rattle.audit.specs.Find.{IsFoundBy, find}
 use Rattle.audit.specs.FindRefutation.{find_refutation}
@@ -21,7 +21,7 @@ use Rattle.audit.specs.declared.question.Request.TheVariants as requests
 abbrev pub finding_in : RequestFinding → Finding
 finding_in (Settlement found) = finding_of found
 finding_in (Envelope found) = envelope_finding found
-finding_in (Over found) = hull_finding found
+finding_in (Over found) = hulls_finding (found ∷ [])
 finding_in found = no_finding
 
 -- What was found is what a request asks for, and enough for a text in this style.
@@ -31,7 +31,7 @@ IsFoundFor (requests.Find asked) style e (Search found) =
     IsFoundBy asked.step.seconds e (data_of found)
 IsFoundFor (requests.Envelope asked) style e (Envelope found) = IsEnvelopeFor asked e found
 IsFoundFor (requests.ByCovers asked) style e (Over found) =
-    reading_of found ≡ ticks_asked asked.reading.begin asked.reading.end
+    is_of (ticks_asked asked.reading.begin asked.reading.end) found ≡ true
 IsFoundFor requests.Settle style e found = ⊥
 IsFoundFor (requests.Find asked) style e found = ⊥
 IsFoundFor (requests.Envelope asked) style e found = ⊥

@@ -40,8 +40,8 @@ pub use envelope_text::{EnvelopeOptions, PLAIN_ENVELOPE, Step};
 pub use evidence::Evidence;
 pub use line_writer::Style;
 pub use question::{
-    At, AtByCovers, AtReading, Check, Find, OrderAfter, OrderWithin, Question, Readings, Refute,
-    Request, RequestFinding, Settle,
+    At, AtByCovers, AtReading, Check, Find, OrderAfter, OrderWithin, Question, Readings,
+    ReadingsByCovers, Refute, Request, RequestFinding, Settle,
 };
 pub use second::{SecondInput, SecondSource};
 pub use true_time::When;

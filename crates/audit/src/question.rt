@@ -21,6 +21,7 @@ mod find_refutation;
 pub(crate) mod order;
 mod reading;
 mod readings;
+mod readings_by_covers;
 mod refute;
 mod samples;
 mod settle;
@@ -35,6 +36,7 @@ pub use crate::question::find::Find;
 pub use crate::question::order::{OrderAfter, OrderWithin};
 pub use crate::question::reading::AtReading;
 pub use crate::question::readings::Readings;
+pub use crate::question::readings_by_covers::ReadingsByCovers;
 pub use crate::question::refute::Refute;
 pub use crate::question::settle::Settle;
 use crate::question::settle::Settlement;
@@ -60,8 +62,8 @@ pub trait Question: Copy {
     /// What its report is on.
     ghost finding: { Self.Finding → FindingData };
 
-    /// This is what it finds of evidence, and enough for a text in a style.
-    ghost IsFound: { Self → Style → EvidenceData → Self.Finding → Type 0 };
+    /// This is what it finds of its second input and evidence, and enough for a text in a style.
+    ghost IsFound: { Self → Style → Self.Second → EvidenceData → Self.Finding → Type 0 };
 
     /// Finds what is to be told in this style, and for a program.
     fn find(
@@ -75,8 +77,10 @@ pub trait Question: Copy {
         requires evidence { IsLawfulEvidence evidence.now }
         ensures found { IfOk result (λ found.
             IsFindingOf (evidence_data evidence.now) (finding found)) }
-        ensures in_style { IfOk result (IsFound self style (evidence_data evidence.now)) }
-        ensures for_a_program { IfOk result (IsFound self Plain (evidence_data evidence.now)) }
+        ensures in_style { IfOk result (IsFound self style second.now
+            (evidence_data evidence.now)) }
+        ensures for_a_program { IfOk result (IsFound self Plain second.now
+            (evidence_data evidence.now)) }
         ensures fault { IfErr result (IsUnfound (asks self) (inputs_data
             (Self.Second.said second.now) (evidence_data evidence.now))) };
 
@@ -94,7 +98,7 @@ pub trait Question: Copy {
         requires second { Self.Second.IsLawful second.now }
         requires evidence { IsLawfulEvidence evidence.now }
         requires finding { IsFindingOf (evidence_data evidence.now) (finding found.now) }
-        requires found { IsFound self style (evidence_data evidence.now) found.now }
+        requires found { IsFound self style second.now (evidence_data evidence.now) found.now }
         requires out { IsWritable (S.state out.old) }
         ensures { Tells (asked_of (asks self) Self.Second.kind style)
             ((asks self).report style (finding found.now)
@@ -153,7 +157,7 @@ impl Question for Request {
 
     ghost finding = { finding_in };
 
-    ghost IsFound = { IsFoundFor };
+    ghost IsFound = { λ asked style _. IsFoundFor asked style };
 
     fn find(
         self,

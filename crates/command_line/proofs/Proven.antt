@@ -137,7 +137,8 @@ module _ (G : Type 0) (places : Places) (before after : World) (response : Respo
       ∙ sym are) _ invocation once.misused once.lawful says
   by_called rows (calls.Judge (judgements.Refute drift) paths) invocation are is once says =
       absurd (not_so _ refl is.0.0)
-  by_called rows (calls.Judge judgements.Readings paths) invocation are is once says = absurd (not_so _ refl is.0.0)
+  by_called rows (calls.Judge (judgements.Readings covers) paths) invocation are is once says =
+      absurd (not_so _ refl is.0.0)
   by_called rows (calls.Ask request paths) invocation are is once says = absurd (not_asked rows request is.0)
   by_called rows (calls.List listed) invocation are is once says = absurd (not_so _ refl is.0)
   by_called rows (calls.Order first second) invocation are is once says = absurd (not_so _ refl is.0)

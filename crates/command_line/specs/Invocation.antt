@@ -99,14 +99,6 @@ HasNoTime rows = AreNotOne (first_of (codes "TIME") rows) (first_of (codes "time
 abbrev pub no_time_text : Text
 no_time_text = codes "error: at takes a TIME, or --times FILE\n"
 
--- a file of readings is asked about by covers
-abbrev pub HasTimesByCovers : List Row → Type 0
-HasTimesByCovers rows =
-    IsSome (first_of (codes "times") rows) × IsFlag (codes "covers") rows true
-
-abbrev pub times_by_covers_text : Text
-times_by_covers_text = codes "error: --covers goes with a TIME, and not with --times\n"
-
 -- whether a command has this name
 abbrev pub is_command : Text → Bool
 is_command name = bytes_eq name (codes "list") || bytes_eq name (codes "samples")
@@ -121,15 +113,13 @@ HasNoStep rows = IfSome (one_of (codes "step") rows) (λ text.
     → digits_value 10 (without_leading_plus text) ≤ 86400 → ⊥)
 
 -- A command that cuts pieces is refused if it's given no length for them, and one that asks about
--- moments if it has none, or two kinds, or a file of them by covers; and so is a name that is no
--- command's.
+-- moments if it has none, or two kinds; and so is a name that is no command's.
 abbrev pub IsRefusable : Text → List Row → Text → Type 0
 IsRefusable name rows told =
     ((is_command name ≡ false) × (told ≡ codes "no command\n"))
     ⊎ (((name ≡ codes "find") ⊎ (name ≡ codes "envelope")) × HasNoStep rows
     × (told ≡ codes "no step\n"))
     ⊎ ((name ≡ codes "at") × HasNoTime rows × (told ≡ no_time_text))
-    ⊎ ((name ≡ codes "at") × HasTimesByCovers rows × (told ≡ times_by_covers_text))
 
 -- what a command without a second input asks
 abbrev pub IsRequest : Text → List Row → Request → Type 0
@@ -168,14 +158,14 @@ abbrev pub IsJudgement : Text → List Row → Judgement → Type 0
 IsJudgement name rows judgements.Check = name ≡ codes "check"
 IsJudgement name rows (judgements.Refute drift) =
     (name ≡ codes "refute") × IsFlag (codes "drift") rows drift
-IsJudgement name rows judgements.Readings = (name ≡ codes "at")
+IsJudgement name rows (judgements.Readings covers) = (name ≡ codes "at")
     × (first_of (codes "TIME") rows ≡ None) × IsSome (first_of (codes "times") rows)
-    × IsFlag (codes "covers") rows false
+    × IsFlag (codes "covers") rows covers
 
 abbrev pub second_operand : Judgement → Text
 second_operand judgements.Check = codes "CERTIFICATE"
 second_operand (judgements.Refute drift) = codes "REFUTATION"
-second_operand judgements.Readings = codes "times"
+second_operand (judgements.Readings covers) = codes "times"
 
 -- One reading of each of two clocks is asked about.
 pub record AreOrdered (rows : List Row) (first second : Shown) : Type 0 where

@@ -16,8 +16,8 @@ Prints:   a line for each server that has a sample, `SERVER LO HI`: the clock's 
           seconds, as 1795329969.5: it stands for as long as its last digit does, the lines are of
           that time, and `true EARLIEST LATEST` ends them, in ticks since 1970: true time lay
           between the two. With --times for each line, such a TIME, `reading TIME hull LO HI true
-          EARLIEST LATEST`. With --covers the lines `hull` and `true` alone, by covers: narrower
-          where a server is caught elsewhere; any TIME stands for as long as its last digit does.
+          EARLIEST LATEST`. With --covers the hull is by covers: narrower where a server is caught
+          elsewhere; of a TIME, which is such a one, the lines `hull` and `true` are all.
           With --human milliseconds, in columns under a heading
 Status:   0 done; 2 an input is refused; 3 out of memory; 4 a file or the output failed; 5 the
           command line is refused

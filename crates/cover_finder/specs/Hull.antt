@@ -2,6 +2,7 @@
 use Rattle.std.specs.Prelude.{⊤, ℕ, ◌<◌, Bool, List, All, length}
 use Rattle.std.specs.Int.{int_max, int_min}
 use Rattle.cover_finder.specs.Common.{Bounded, ClaimData, Course, Empty, Exchange, Fits, Groups, HoldsErrorOf, HoldsOne, Hull, IsSaidBySome, Part, Stretch, Unbounded, holds_false}
+use Rattle.cover_finder.specs.declared.hull.HullFinder.{HullFinder}
 
 -- parts are what some entries say, of servers that the claim lists
 pub record AreSaid (claim : ClaimData) (xs : List Exchange) (out : ℕ → Bool) (stretch : Stretch)
@@ -26,3 +27,7 @@ AreCases claim xs cases = (course : Course) → Fits claim xs course
 -- stretch. An unbounded hull says nothing, and an empty one that no course has such a moment.
 abbrev pub HoldsError : ClaimData → List Exchange → Stretch → Hull → Type 0
 HoldsError claim xs stretch hull = HoldsErrorOf claim xs stretch (λ course. ⊤) hull
+
+-- a finder of the hulls of these exchanges
+abbrev pub IsFinderFor : ClaimData → List Exchange → HullFinder → Type 0
+IsFinderFor claim xs finder = AreCases claim xs finder.cases.items

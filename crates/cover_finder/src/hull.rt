@@ -7,7 +7,7 @@
 
 ghost use Rattle.std.specs.Prelude.{◌≡◌, ◌-◌, ◌<◌, ◌≤◌, ℕ, Bool, length, map, All, IfOk, IfSome};
 ghost use Rattle.cover_finder.specs.Common.{HasFalse, HoldsErrorOf, HoldsOne, HoldsOneOr64, IsLawful, IsPiece, IsSaidBySome, claim_data, holds, size_of};
-ghost use Rattle.cover_finder.specs.Hull.{AreCases, AreSaid, HoldsError, join_of};
+ghost use Rattle.cover_finder.specs.Hull.{AreCases, AreSaid, HoldsError, IsFinderFor, join_of};
 
 use crate::table::{Table, said_over, tables_of};
 use arrayvec::ArrayVec;
@@ -191,25 +191,49 @@ fn cases<X: ToExchange>(
     Ok(cases_of(conflicts.covers(claim.false_max)))
 }
 
-/// The hull over a stretch by covers: the error lies there at every moment whose reading lies in
-/// the stretch, in every course of events that fits the exchanges. If there may be more than 63
-/// minimal covers, it is one by marks alone.
-///
-/// There are at most 1,000,000 exchanges. The one error is that no memory is left.
-pub fn hull_by_covers<X: ToExchange>(
-    alloc: Global,
-    exchanges: &[X],
-    claim: &Claim,
-    stretch: Stretch,
-) -> Result<Hull, AllocError>
-    requires exchanges { All (IsLawful (length claim.now.servers.items))
-        (map X.shown exchanges.now) }
-    requires few { length exchanges.now ≤ 1_000_000 }
-    requires stretch { IsPiece stretch.begin stretch.end }
-    ensures { IfOk result (HoldsError (claim_data claim.now) (map X.shown exchanges.now) stretch) }
-{
-    let cases = cases(alloc, exchanges, claim)?;
-    let tables = tables_of(alloc, exchanges, claim)?;
-    let tables = tables.as_slice();
-    Ok(hull_over(exchanges, claim, tables, cases.as_slice(), stretch))
+/// Hulls by covers of a claim and exchanges, over any stretch.
+#[derive(Drop)]
+pub struct HullFinder {
+    /// Sets of groups of which each course that fits has one whose groups hold a false server each.
+    pub(crate) cases: ArrayVec<Groups, 64>,
+    tables: Vec<Table>,
+}
+
+impl HullFinder {
+    /// Looks for the covers, and lays out the marks.
+    ///
+    /// There are at most 1,000,000 exchanges. The one error is that no memory is left.
+    pub fn new<X: ToExchange>(
+        alloc: Global,
+        exchanges: &[X],
+        claim: &Claim,
+    ) -> Result<HullFinder, AllocError>
+        requires exchanges { All (IsLawful (length claim.now.servers.items))
+            (map X.shown exchanges.now) }
+        requires few { length exchanges.now ≤ 1_000_000 }
+        ensures { IfOk result (IsFinderFor (claim_data claim.now) (map X.shown exchanges.now)) }
+    {
+        let cases = cases(alloc, exchanges, claim)?;
+        let tables = tables_of(alloc, exchanges, claim)?;
+        Ok(HullFinder { cases, tables })
+    }
+
+    /// The hull over a stretch by covers: the error lies there at every moment whose reading lies
+    /// in the stretch, in every course of events that fits the exchanges, which are those that the
+    /// finder was made for. If there may be more than 63 minimal covers, it is one by marks alone.
+    pub fn hull<X: ToExchange>(&self, exchanges: &[X], claim: &Claim, stretch: Stretch) -> Hull
+        requires exchanges { All (IsLawful (length claim.now.servers.items))
+            (map X.shown exchanges.now) }
+        requires finder { IsFinderFor (claim_data claim.now) (map X.shown exchanges.now) self.now }
+        requires stretch { IsPiece stretch.begin stretch.end }
+        ensures { HoldsError (claim_data claim.now) (map X.shown exchanges.now) stretch result }
+    {
+        hull_over(
+            exchanges,
+            claim,
+            self.tables.as_slice(),
+            self.cases.as_slice(),
+            stretch,
+        )
+    }
 }

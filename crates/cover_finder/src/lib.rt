@@ -32,5 +32,5 @@ mod side;
 mod table;
 
 pub use answer::{Answer, settle};
-pub use hull::hull_by_covers;
+pub use hull::HullFinder;
 pub use search::{Found, find_by_covers};

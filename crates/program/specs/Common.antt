@@ -4,6 +4,7 @@ pub use Rattle.audit.specs.Common.{When}
 pub use Rattle.audit.specs.Order.{GiveWhen}
 pub use Rattle.audit.specs.Question.{AskedData, asked_of}
 pub use Rattle.audit.specs.Reading.{ticks_asked}
+pub use Rattle.audit.specs.ByCovers.{readings_by_covers}
 pub use Rattle.audit.specs.Readings.{readings}
 pub use Rattle.audit.specs.Refute.{refute}
 pub use Rattle.audit.specs.Report.{inputs_read}

@@ -1,6 +1,6 @@
 -- What a command line asks of files.
 use Rattle.std.specs.Prelude.{◌≡◌, ℕ, Bool, true, false, List, [], Option, Some, None, codes, option_map, if◌then◌else◌, string_bytes, unwrap_or}
-use Rattle.program.specs.Common.{Style, Plain, Input, Certificate, Refutation, Times, check, AskedData, asked_of, readings, refute, question_of, certificate_second, no_second, refutation_second, times_second, settle, Request}
+use Rattle.program.specs.Common.{Style, Plain, Input, Certificate, Refutation, Times, check, AskedData, asked_of, readings, readings_by_covers, refute, question_of, certificate_second, no_second, refutation_second, times_second, settle, Request}
 use Rattle.audit.specs.declared.question.Request.TheVariants as requests
 use Rattle.program.specs.About.{about_of, inputs_of}
 use Rattle.program.specs.Opening.{Place, Places, place}
@@ -21,7 +21,7 @@ is_human style = true
 abbrev pub second_of : Judgement → Input
 second_of judgements.Check = Certificate
 second_of (judgements.Refute drift) = Refutation
-second_of judgements.Readings = Times
+second_of (judgements.Readings covers) = Times
 
 -- the operand that names a listing's capture
 abbrev pub listed_name : Listed → List ℕ
@@ -75,7 +75,8 @@ abbrev pub judging : Judgement → Style → List ℕ → AskedData
 judging judgements.Check style about = asked_of (check about) certificate_second style
 judging (judgements.Refute drift) style about =
     asked_of (refute drift about) refutation_second style
-judging judgements.Readings style about = asked_of readings times_second style
+judging (judgements.Readings false) style about = asked_of readings times_second style
+judging (judgements.Readings true) style about = asked_of readings_by_covers times_second style
 
 abbrev pub judged_of : Judgement → JudgedPaths → Asking
 judged_of judgement paths = named (judging judgement paths.evidence.style) paths.evidence.style

@@ -85,7 +85,10 @@ pub enum Judgement {
         drift: bool,
     },
     /// Say when it was that the clock showed readings.
-    Readings,
+    Readings {
+        /// Whether by covers.
+        covers: bool,
+    },
 }
 
 impl Judgement {
@@ -96,7 +99,7 @@ impl Judgement {
         match self {
             Judgement::Check => Input::Certificate,
             Judgement::Refute { .. } => Input::Refutation,
-            Judgement::Readings => Input::Times,
+            Judgement::Readings { .. } => Input::Times,
         }
     }
 }

@@ -12,7 +12,9 @@ use crate::about::{Called, about, asked_inputs, judged_inputs};
 use crate::asked::is_human;
 use crate::inputs::{Inputs, Opened};
 use crate::invocation::{JudgedPaths, Judgement, Paths};
-use audit::{Check, Outputs, Question, Readings, Refute, Request, Settle, Style, answer};
+use audit::{
+    Check, Outputs, Question, Readings, ReadingsByCovers, Refute, Request, Settle, Style, answer,
+};
 use byte_stream::Sink;
 use report::{Conclusion, Input, RunFault, conclude, read_input};
 use std::alloc::Global;
@@ -194,8 +196,11 @@ pub(crate) fn judge<N: NamedFeed + Drop, S: Sink, E: Sink, H: BuildHasher + Drop
                     let refute = Refute { drift, about };
                     answer_by(alloc, refute, style, text, inputs, to, hasher)
                 }
-                Judgement::Readings => {
+                Judgement::Readings { covers: false } => {
                     answer_by(alloc, Readings, style, text, inputs, to, hasher)
+                }
+                Judgement::Readings { covers: true } => {
+                    answer_by(alloc, ReadingsByCovers, style, text, inputs, to, hasher)
                 }
             }
         }

@@ -3,7 +3,8 @@
 //!
 //! [`readings_text`] gives the text for many readings: the samples are laid out in tables once, and
 //! a hull is a search in them. The hulls are found in the order of the readings' ticks, and written
-//! in the readings' own. [`laws`] say that true time lies between the two. For one reading
+//! in the readings' own; with hulls that a caller has, [`add_reading`] makes the lines. [`laws`] say
+//! that true time lies between the two. For one reading
 //! [`parts_at`] gives what each server says, and [`add_true_time`] adds the two to a text.
 //!
 //! The line of a reading, as `add_readings` of `true_time/src/reading_line.rt` makes it, with its
@@ -28,6 +29,6 @@ mod when;
 pub use hull::parts_at;
 pub use order::{Order, order_of, order_of_one};
 pub use order_line::order_text;
-pub use reading_line::readings_text;
+pub use reading_line::{add_heading, add_reading, empty_text, readings_text};
 pub use true_text::add_true_time;
 pub use when::{When, when_at};

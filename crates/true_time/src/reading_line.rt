@@ -1,6 +1,6 @@
 //! The text of many readings.
 
-ghost use Rattle.std.specs.Prelude.{◌≡◌, ◌+◌, ◌≤◌, ◌++◌, ◌^◌, ◌-ℤ◌, pos, true, unsigned_abs, IfOk, IsTrue, All, length, map};
+ghost use Rattle.std.specs.Prelude.{◌≡◌, ◌+◌, ◌≤◌, ◌++◌, [], ◌^◌, ◌-ℤ◌, pos, true, unsigned_abs, IfOk, IsTrue, All, length, map};
 ghost use Rattle.line_writer.specs.declared.line.TheConstants.{CAPACITY};
 ghost use Rattle.line_writer.specs.Field.{room_of};
 ghost use Rattle.audit_text.specs.Table.{rows_from};
@@ -22,6 +22,9 @@ use sweep::{BestTable, Places};
 
 const BLANKS: &str = "                              ";
 
+/// Bytes of a line.
+const LINE: usize = 112;
+
 const HEADING: &str = "                       reading   low error ms  high error ms             \
 earliest true time               latest true time\n";
 
@@ -36,9 +39,16 @@ pub(crate) fn row_style(style: Style) -> Style
     }
 }
 
-/// Adds the headings, for a person.
+/// An empty text with room for the lines of readings, of the length that these mostly have.
+pub fn empty_text(alloc: Global, readings: &[Reading]) -> Result<Vec<u8>, AllocError>
+    ensures { IfOk result (λ text. text.items ≡ []) }
+{
+    Vec::with_capacity(alloc, readings.len().saturating_mul(LINE))
+}
+
+/// Adds the headings of lines of readings, for a person.
 #[tactic(auto, unfolding(crate::specs::ReadingLine::reading_heading))]
-fn add_heading(text: &mut Vec<u8>, style: Style) -> Result<(), AllocError>
+pub fn add_heading(text: &mut Vec<u8>, style: Style) -> Result<(), AllocError>
     ensures { IfOk result (λ _. text.new.items ≡ text.old.items ++ spec.reading_heading style) }
 {
     if is_plain(style) {
@@ -183,9 +193,10 @@ fn add_times(
     }
 }
 
-/// Adds the line of a reading.
+/// Adds the line of a reading: as it is written, the hull of the clock's error over the ticks for
+/// which it stands, in ticks of 2^-32 s, and the earliest and the latest true time, in Unix ticks.
 #[tactic(auto, unfolding(crate::specs::ReadingLine::reading_line))]
-fn add_reading(
+pub fn add_reading(
     text: &mut Vec<u8>,
     style: Style,
     reading: &Reading,
@@ -244,7 +255,7 @@ pub fn readings_text<S: SampleSource>(
 {
     let tables = tables_for(alloc, samples, claim)?;
     let hulls = hulls_of(alloc, tables.as_slice(), claim, readings)?;
-    let mut text = Vec::new(alloc);
+    let mut text = empty_text(alloc, readings)?;
     add_heading(&mut text, style)?;
     add_readings(
         &mut text,

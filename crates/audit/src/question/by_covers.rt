@@ -1,9 +1,9 @@
-//! What is made for `at` with one reading, by covers.
+//! What is made for `at` by covers, with one reading.
 
-ghost use Rattle.std.specs.Prelude.{◌≡◌, ◌≤◌, IfOk, pos};
-ghost use Rattle.audit.specs.Common.{IsPiece, stretch_over};
+ghost use Rattle.std.specs.Prelude.{◌≡◌, ◌≤◌, ◌∷◌, [], IfOk, true};
+ghost use Rattle.audit.specs.Common.{IsFinderFor};
 ghost use Rattle.audit.specs.ByCovers as spec;
-ghost use Rattle.audit.specs.ByCovers.{at_by_covers, hull_finding, reading_of};
+ghost use Rattle.audit.specs.ByCovers.{IsHeldOver, at_by_covers, hulls_finding, is_of};
 ghost use Rattle.audit.specs.Evidence.{IsLawfulEvidence, evidence_data};
 ghost use Rattle.audit.specs.Reading.{ticks_asked};
 
@@ -13,7 +13,7 @@ use crate::question::reading::{AtReading, last_of};
 use crate::whole_text::publish_text;
 use audit_text::parts_text;
 use byte_stream::Sink;
-use cover_finder::hull_by_covers;
+use cover_finder::HullFinder;
 use intersection::kinds::Hull;
 use line_writer::Style;
 use report::{Outcome, RunFault};
@@ -39,16 +39,49 @@ pub struct HullOver {
     pub(crate) hull: Hull,
 }
 
-/// The stretch of these ticks.
-fn ticks(begin: u64, end: u64) -> Stretch
-    requires in_order { begin ≤ end }
-    ensures value { result ≡ stretch_over (pos begin) (pos end) }
-    ensures piece { IsPiece result.begin result.end }
+/// What finds the hulls of evidence.
+pub(crate) fn finder_for(alloc: Global, evidence: &Evidence) -> Result<HullFinder, AllocError>
+    requires evidence { IsLawfulEvidence evidence.now }
+    ensures { IfOk result (IsFinderFor (evidence_data evidence.now).claim
+        (evidence_data evidence.now).collection.exchanges) }
 {
-    Stretch {
+    HullFinder::new(alloc, &evidence.held.exchanges, &evidence.claim)
+}
+
+/// The hull over these ticks.
+pub(crate) fn hull_over(finder: &HullFinder, evidence: &Evidence, begin: u64, end: u64) -> HullOver
+    requires evidence { IsLawfulEvidence evidence.now }
+    requires finder { IsFinderFor (evidence_data evidence.now).claim
+        (evidence_data evidence.now).collection.exchanges finder.now }
+    requires in_order { begin ≤ end }
+    ensures begin { result.begin ≡ begin }
+    ensures end { result.end ≡ end }
+    ensures held { IsHeldOver (evidence_data evidence.now) result }
+{
+    errors_tell_true_time();
+    let stretch = Stretch {
         begin: i128::from(begin),
         end: i128::from(end),
-    }
+    };
+    let hull = finder.hull(&evidence.held.exchanges, &evidence.claim, stretch);
+    HullOver { begin, end, hull }
+}
+
+/// The hull over the ticks of one reading.
+fn found_over(
+    alloc: Global,
+    evidence: &Evidence,
+    begin: u64,
+    end: u64,
+) -> Result<HullOver, AllocError>
+    requires evidence { IsLawfulEvidence evidence.now }
+    requires in_order { begin ≤ end }
+    ensures begin { IfOk result (λ found. found.begin ≡ begin) }
+    ensures end { IfOk result (λ found. found.end ≡ end) }
+    ensures held { IfOk result (IsHeldOver (evidence_data evidence.now)) }
+{
+    let finder = finder_for(alloc, evidence)?;
+    Ok(hull_over(&finder, evidence, begin, end))
 }
 
 /// The whole text on a hull.
@@ -74,10 +107,10 @@ impl Question for AtByCovers {
 
     ghost asks = { λ asked. at_by_covers asked.reading.begin asked.reading.end };
 
-    ghost finding = { hull_finding };
+    ghost finding = { λ found. hulls_finding (found ∷ []) };
 
-    ghost IsFound = { λ asked _ _ found.
-        reading_of found ≡ ticks_asked asked.reading.begin asked.reading.end };
+    ghost IsFound = { λ asked _ _ _ found.
+        is_of (ticks_asked asked.reading.begin asked.reading.end) found ≡ true };
 
     #[tactic(auto, using(crate::proofs::Showing::memory_unfound))]
     fn find(
@@ -87,11 +120,8 @@ impl Question for AtByCovers {
         _second: &(),
         evidence: &Evidence,
     ) -> Result<HullOver, RunFault> {
-        errors_tell_true_time();
-        let (begin, end) = (self.reading.begin, last_of(self.reading));
-        let stretch = ticks(begin, end);
-        match hull_by_covers(alloc, &evidence.held.exchanges, &evidence.claim, stretch) {
-            Ok(hull) => Ok(HullOver { begin, end, hull }),
+        match found_over(alloc, evidence, self.reading.begin, last_of(self.reading)) {
+            Ok(found) => Ok(found),
             Err(AllocError) => Err(RunFault::Memory),
         }
     }

@@ -173,7 +173,7 @@ impl<'a> Question for Check<'a> {
 
     ghost finding = { spec.fit_finding };
 
-    ghost IsFound = { λ _ style _ found. spec.IsEnoughFor style found };
+    ghost IsFound = { λ _ style _ _ found. spec.IsEnoughFor style found };
 
     #[tactic(auto, using(crate::proofs::VerdictShowing::fits_found))]
     fn find(

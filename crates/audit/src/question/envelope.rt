@@ -45,7 +45,7 @@ impl Question for EnvelopeOptions {
 
     ghost finding = { envelope_finding };
 
-    ghost IsFound = { λ asked style. IsEnvelopeFor asked };
+    ghost IsFound = { λ asked _ _. IsEnvelopeFor asked };
 
     #[tactic(auto, using(crate::proofs::Showing::memory_unfound))]
     fn find(

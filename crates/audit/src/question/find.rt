@@ -85,7 +85,8 @@ impl Question for Find {
 
     ghost finding = { λ _. no_finding };
 
-    ghost IsFound = { λ asked _ e found. spec.IsFoundBy asked.step.seconds e (found_data found) };
+    ghost IsFound = { λ asked _ _ e found.
+        spec.IsFoundBy asked.step.seconds e (found_data found) };
 
     #[tactic(auto, using(crate::proofs::SearchShowing::search_found))]
     fn find(

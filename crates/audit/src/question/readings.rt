@@ -48,7 +48,7 @@ impl Question for Readings {
 
     ghost finding = { λ _. no_finding };
 
-    ghost IsFound = { λ _ _ _ _. Unit {0} };
+    ghost IsFound = { λ _ _ _ _ _. Unit {0} };
 
     fn find(
         self,

@@ -91,7 +91,7 @@ impl<'a> Question for Refute<'a> {
 
     ghost finding = { λ _. no_finding };
 
-    ghost IsFound = { λ _ _ _ _. Unit {0} };
+    ghost IsFound = { λ _ _ _ _ _. Unit {0} };
 
     fn find(
         self,

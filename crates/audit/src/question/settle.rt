@@ -203,7 +203,7 @@ impl<'a> Question for Settle<'a> {
 
     ghost finding = { finding_of };
 
-    ghost IsFound = { λ _ style e found. IsEnoughFor style e found };
+    ghost IsFound = { λ _ style _ e found. IsEnoughFor style e found };
 
     #[tactic(auto, using(crate::proofs::SettlementShowing::settlement_found))]
     fn find(

@@ -98,14 +98,9 @@ fn asked_of_file(alloc: Global, words: &ArgMatches) -> Result<Invocation, AllocE
     requires file { IsSome (first_of (codes "times") (found_rows words.now)) }
     ensures { IfOk result (IsCalled (codes "at") (found_rows words.now)) }
 {
-    if is_given(words, "covers") {
-        return Invocation::refusal(
-            alloc,
-            "error: --covers goes with a TIME, and not with --times\n",
-        );
-    }
+    let covers = is_given(words, "covers");
     let paths = judged_paths(alloc, words, "times")?;
-    Ok(Invocation::Judge(Judgement::Readings, paths))
+    Ok(Invocation::Judge(Judgement::Readings { covers }, paths))
 }
 
 /// What its words call for.
