@@ -270,8 +270,8 @@ SHOWN = {"crates/audit_text/specs/CheckReport.antt", "crates/audit_text/src/chec
 
 
 def test_claim_field() -> None:
-    """CONTRIBUTING.md names as many files as it says for a new field of the claim, and each that has all numbers of one,
-    or goes up to its last code, and isn't about what they mean."""
+    """CONTRIBUTING.md names as many files as it says for a new field of the claim, and each that has all numbers of
+    one, or goes up to its last code, and isn't about what they mean."""
     section = (ROOT / "CONTRIBUTING.md").read_text("utf-8").split("## A new field of the claim\n")[1].split("\n## ")[0]
     first, *others = re.findall(r"^\d\. (.*)$", section, flags=re.M)
     listed = {word for line in others for word in re.findall(r"[\w./]+/[\w./]*\w", line)}
