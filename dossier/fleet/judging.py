@@ -126,7 +126,8 @@ class Judging:
         return recording.around(claim.first * SECOND, claim.last * SECOND) is not None
 
     def difference(self, entry: Entry, capture: str, record: Record) -> str:
-        """Has the program judge each answer. The first that it doesn't accept, or of which it says something else."""
+        """Has the program judge each answer. The first that it doesn't accept, or of which it says something else;
+        nothing if there is none."""
         sums = {**record.inputs, **entry.outputs}
         of_capture = sums[record.capture]
         if entry.answer == YES:

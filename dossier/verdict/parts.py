@@ -137,6 +137,7 @@ class Parting:
         return self.search.between_exchanges(one) if is_clear else wide
 
     def named(self, claim: Claim) -> str:
+        """Writes a claim over the one private file of such, and gives the file's name: it holds until the next."""
         keep(ALONE, claim.text)
         return ALONE
 

@@ -176,7 +176,7 @@ class Settling:
         self.left[own] = self.sums[own]
 
     def keep(self, name: str, data: bytes) -> bytes:
-        """Leaves a file of this part."""
+        """Leaves a file of this part, notes its sum, and gives its bytes again."""
         path = self.part.within(name)
         keep(path, data)
         self.sums[path] = self.left[path] = sum_of(data)

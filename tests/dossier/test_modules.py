@@ -102,6 +102,49 @@ def test_calls() -> None:
     check("docs/callers: calls that are looked for", number=(number, lambda number: 500 < number))
 
 
+ONE = """class One:
+    def take(self) -> int:
+        return self.own()
+
+    def own(self) -> int:
+        return 1
+"""
+OTHER = """class Other:
+    def take(self) -> int:
+        return 1
+
+    def anothers(self) -> int:
+        return self.take()
+
+def of_any(one: One) -> int:
+    return one.take()
+
+def handed(ones: list[One]) -> list[int]:
+    return list(map(One.take, ones))
+
+def field(one: One) -> int:
+    return one.take + 1
+
+def lent() -> object:
+    def inner() -> int:
+        return 1
+    return run(inner)
+"""
+
+
+def test_methods() -> None:
+    """`docs/callers` tells no field, and no method of another class, as one that is called; but what is handed on."""
+    there = runpy.run_path(str(ROOT / "docs/callers"))
+    python = there["PYTHON"]
+    one, other = every = [there["Source"](ROOT / f"dossier/{name}.py", text, text) for name, text in
+                          (("one", ONE), ("other", OTHER))]
+    for source, name, seen in ((one, "own", ["called by take"]), (other, "inner", ["handed on by lent"]),
+                               (one, "take", ["called by of_any", "called by handed"])):
+        item = next(item for item in there["items"](python, source) if item.name == name)
+        said = [line.split(" in ")[0] for line in there["told"](python, item, every) if " by " in line]
+        check(f"docs/callers: who calls {name}", said=(said, seen))
+
+
 def kind_by(module: Any) -> Any:
     """A class of records by a module."""
     @module.dataclass(frozen=True)

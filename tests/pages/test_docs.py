@@ -270,8 +270,8 @@ SHOWN = {"crates/audit_text/specs/CheckReport.antt", "crates/audit_text/src/chec
 
 
 def test_claim_field() -> None:
-    """CONTRIBUTING.md names as many files as it says for a new field of the claim, and each that has all numbers of one
-    and isn't about what they mean."""
+    """CONTRIBUTING.md names as many files as it says for a new field of the claim, and each that has all numbers of
+    one, or goes up to its last code, and isn't about what they mean."""
     section = (ROOT / "CONTRIBUTING.md").read_text("utf-8").split("## A new field of the claim\n")[1].split("\n## ")[0]
     first, *others = re.findall(r"^\d\. (.*)$", section, flags=re.M)
     listed = {word for line in others for word in re.findall(r"[\w./]+/[\w./]*\w", line)}
@@ -280,8 +280,10 @@ def test_claim_field() -> None:
         listed |= {f"crates/claim_file/{folder}/{name}.{end}" for name in CODE.findall(names)}
     patterns = ("crates/*/src/**/*.rt", "crates/*/specs/**/*.antt", "crates/*/proofs/**/*.antt", "judge/*.v",
                 "second/recheck", "dossier/folder/*.py")
+    last = len(claims.Claim.__annotations__)
+    codes = re.compile(rf"\b1\.\.{last + 1}u8|\bcode (?:≤ )?{last}\b|MAX_BOUND_NS[^;]*MAX_READING_NS")
     there = {str(file.relative_to(ROOT)) for pattern in patterns for file in ROOT.glob(pattern)
-             if all(name in file.read_text("utf-8") for name in claims.MOST)}
+             for text in [file.read_text("utf-8")] if all(name in text for name in claims.MOST) or codes.search(text)}
     check("a new field of the claim", missing=(sorted(there - listed - SHOWN), []),
           gone=([name for name in sorted(listed) if not (ROOT / name).exists()], []),
           count=(f"is 0 then: {len(listed)} files" in section, True))

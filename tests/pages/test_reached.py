@@ -92,6 +92,8 @@ def test_callers() -> None:
     there = runpy.run_path(str(ROOT / "docs/callers"))
     rust, told = there["RUST"], defaultdict[Name, set[Name]](set)
     every = there["sources"](rust)
+    heads = [there["said"](rust, item) for source in every for item in there["items"](rust, source) if not item.is_type]
+    check("docs/callers: contracts", cut=([head for head in heads if head.count("{") != head.count("}")], []))
     for item in (item for source in every for item in there["items"](rust, source) if not item.owner):
         told[item.source.room.name, item.name] |= {(one.source.room.name, one.name) for one in
                                                    there["callers"](rust, item, every) if hasattr(one, "name")}
