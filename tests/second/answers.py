@@ -110,14 +110,15 @@ def nanoseconds_of(text: str) -> tuple[int, int]:
 
 
 def moments(evidence: Evidence, text: str, covers: bool = False) -> Answer:
-    """Of each line, a reading, the hull over its ticks, by covers if it is asked so, and between which true time lay."""
-    lines, hulls = list[str](), by_covers.Joined(evidence.claim, evidence.samples) if covers else evidence.hulls
+    """Of each line, a reading, the hull over its ticks, by covers if so asked, and between which true time lay."""
+    over = by_covers.Joined(evidence.claim, evidence.samples).over if covers else evidence.hulls.over
+    lines = list[str]()
     for number, line in enumerate(text.removesuffix("\n").split("\n") if text else [], 1):
         if number > 1_000_000:
             return 2, ["times 2 too-many"]
         if not (ticks := reading_of(line)):
             return 2, [f"times 1 time line {number}"]
-        hull = hulls.over(*ticks)
+        hull = over(*ticks)
         true = f" {true_times(ticks, hull)}" if hull else ""
         lines.append(f"reading {line} hull {rules.hull_words(hull)}{true}")
     return 0, lines
