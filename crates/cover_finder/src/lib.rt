@@ -24,6 +24,7 @@
 
 mod answer;
 mod hull;
+pub mod laws;
 mod reach;
 mod refuted;
 mod ridge;
