@@ -1,11 +1,14 @@
 -- What hulls by covers show.
 use Rattle.std.proofs.lemmas.List.Elements.{All-cons, All-head, All-nil, All-tail}
-use Rattle.audit.proofs.Common.{◌≡◌, ◌++◌, ◌∷◌, [], List, All, Some, true, and_parts, refl, EvidenceData, ShowsOf, Style, Yes, whole_text}
+use Rattle.std.proofs.lemmas.List.{map_more}
+use Rattle.std.proofs.Common.{◌+◌, ◌<◌, take}
+use Rattle.audit.proofs.Common.{◌≡◌, ◌++◌, ◌∷◌, [], ℕ, List, All, Some, true, and_parts, arith, get_or, length, map, nat_tests, refl, EvidenceData, ShowsOf, Style, Yes, whole_text}
 use Rattle.audit.specs.ByCovers.{AreHeldAt, IsHeldAt, IsHeldOver, are_of, hull_report, hull_text, hulls_report, hulls_text, is_of, readings_by_covers}
 use Rattle.audit.specs.Check.{GiveSecond}
-use Rattle.audit.specs.Common.{ReadingData, times_read}
+use Rattle.audit.specs.Common.{ReadingData, reading_data, times_read}
 use Rattle.audit.specs.Second.{times_said, times_second}
 use Rattle.audit.specs.declared.question.by_covers.HullOver.{HullOver}
+use Rattle.reading_time.specs.declared.reading.Reading.{Reading}
 use Rattle.audit.proofs.Showing.{of_inputs, of_second}
 
 -- the report on the hull of a reading is its text
@@ -27,6 +30,17 @@ one_more (r' ∷ readings) [] r one before last = absurd cc
 one_more (r' ∷ readings) (f ∷ found) r one before last =
     let both = and_parts (is_of r' f) (are_of readings found) before in
     rw (both.0, one_more readings found r one both.1 last) refl
+
+-- of the first so many, and of the next
+pub read_one_more : (readings : List Reading) (k : ℕ) (d : Reading) (found : List HullOver) (one : HullOver)
+    → k < length readings → are_of (map reading_data (take k readings)) found ≡ true
+    → one.begin ≡ (get_or readings k d).begin → one.end ≡ (get_or readings k d).end
+    → are_of (map reading_data (take (k + 1) readings)) (found ++ one ∷ []) ≡ true
+read_one_more readings k d found one within before begin end =
+    let r = reading_data (get_or readings k d) in
+    let own : is_of r one ≡ true = grind (arith, nat_tests) in
+    rw (map_more reading_data readings k d within)
+    (one_more (map reading_data (take k readings)) found r one before own)
 
 -- each reading has a hull among those that were found
 pub are_held_at : (e : EvidenceData) (readings : List ReadingData) (found : List HullOver) → are_of readings found ≡ true

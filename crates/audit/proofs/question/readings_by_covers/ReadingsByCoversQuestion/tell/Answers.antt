@@ -11,4 +11,5 @@ returns g c =
     let found = c.args.found.now.items in
     told_whole (reports_are c.args.style said found c.requires.found)
     (held_shown e said (are_held_at e said found c.requires.found c.requires.finding.over))
-    (c.publish_text.ensures _ c.hulls_text-text.ensures)
+    (c.publish_text.ensures _
+    (rw (c.as_slice.ensures.value, c.as_slice-2.ensures.value) at c.hulls_text-text.ensures))
