@@ -1,5 +1,5 @@
 -- Hulls by covers: what the clock's error can't be outside of, in any course that fits.
-use Rattle.std.specs.Prelude.{◌≡◌, ⊤, ℕ, ◌+◌, ◌-◌, ◌<◌, ◌≤◌, ℤ, pos, ◌+ℤ◌, ◌-ℤ◌, ◌*ℤ◌, ◌≤ℤ◌, ◌<ℤ◌, Bool, false, List, [], ◌∷◌, All, AllPairs, Any, Some, fold, length, ◌⊎◌, slice_get, unsigned_abs}
+use Rattle.std.specs.Prelude.{◌≡◌, ⊤, ℕ, ◌-◌, ◌<◌, ◌≤◌, ℤ, pos, ◌+ℤ◌, ◌-ℤ◌, ◌*ℤ◌, ◌≤ℤ◌, ◌<ℤ◌, Bool, false, List, [], ◌∷◌, All, AllPairs, Any, Some, fold, length, ◌⊎◌, slice_get, unsigned_abs}
 use Rattle.std.specs.Int.{int_max, int_min}
 use Rattle.cover_finder.specs.Common.{AreLeastCovers, Bounded, ClaimData, Course, Empty, Exchange, Fits, Groups, HoldsErrorOf, HoldsOne, Hull, IsSaidBySome, Part, Stretch, Unbounded, error_of, group_of, high_mark, high_over, holds, holds_false, low_mark, low_over, piece_hull, size_of, widening}
 
@@ -58,6 +58,13 @@ IsWithoutCovers cases =
 abbrev pub AreOfCovers : List Groups → List Groups → Type 0
 AreOfCovers covers cases =
     ((length covers < 64) × (cases ≡ covers)) ⊎ ((64 ≤ length covers) × IsWithoutCovers cases)
+
+-- these are the cases of the minimal covers of the conflicts
+pub record AreCasesOfCovers (claim : ClaimData) (xs : List Exchange) (cases : List Groups)
+    : Type 0 where
+  pub covers : List Groups
+  pub are : AreLeastCovers claim xs covers
+  pub of_covers : AreOfCovers covers cases
 
 -- the hull by covers over a stretch: of the minimal covers of the conflicts
 pub record IsHullByCovers (claim : ClaimData) (xs : List Exchange) (stretch : Stretch)

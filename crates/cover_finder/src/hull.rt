@@ -2,96 +2,24 @@
 //!
 //! The groups that hold a false server in a course hold all groups of some minimal cover. What the
 //! others say has a hull, by as many fewer that may be false. So the least hull with all of these
-//! in it, a cover's each, holds the error in every course. The tables say which exchanges to ask;
-//! what these say is found anew, so that nothing rests on the tables.
+//! in it, a cover's each, holds the error in every course.
 
-ghost use Rattle.std.specs.Prelude.{◌≡◌, ◌-◌, ◌<◌, ◌≤◌, ℕ, Bool, length, map, All, IfOk, IfSome};
-ghost use Rattle.cover_finder.specs.Common.{HasFalse, HoldsErrorOf, HoldsOne, HoldsOneOr64, IsLawful, IsPiece, IsSaidBySome, claim_data, holds, size_of};
-ghost use Rattle.cover_finder.specs.Hull.{AreCases, AreSaid, HoldsError, join_of};
+ghost use Rattle.std.specs.Prelude.{◌≡◌, ◌-◌, ◌≤◌, ℕ, Bool, length, map, All, IfOk};
+ghost use Rattle.cover_finder.specs.Common.{HasFalse, HoldsErrorOf, HoldsOne, HoldsOneOr64, IsLawful, IsPiece, claim_data, holds, size_of};
+ghost use Rattle.cover_finder.specs.Hull.{AreCases, AreCasesOfCovers, AreOfCovers, HoldsError, IsHullByCovers, IsHullOf, IsHullWithout, join_of};
+ghost use Rattle.cover_finder.specs.Table.{AreListed, AreTablesOf};
 
 use crate::table::{Table, said_over, tables_of};
 use arrayvec::ArrayVec;
 use claim_file::Claim;
 use cover_checker::laws::hulls_hold_the_error;
-use cover_checker::{exchange_named, part_of};
 use feasibility::laws::{false_groups_are_a_cover, tables_settle_covers};
 use feasibility::{Groups, conflicts_of};
 use intersection::kinds::Hull;
 use intersection::laws::every_list_has_a_hull;
 use pairing::ToExchange;
-use span_cover::{Part, Stretch, piece_hull};
+use span_cover::{Stretch, piece_hull};
 use std::alloc::{AllocError, Global};
-
-/// What an entry's two exchanges say over a stretch, if they are of one server, whose group isn't
-/// among these.
-fn part_named<X: ToExchange>(
-    exchanges: &[X],
-    claim: &Claim,
-    out: Groups,
-    stretch: Stretch,
-    entry: (u32, u32),
-) -> Option<Part>
-    requires exchanges { All (IsLawful (length claim.now.servers.items))
-        (map X.shown exchanges.now) }
-    requires stretch { IsPiece stretch.begin stretch.end }
-    ensures said { IfSome result (IsSaidBySome (claim_data claim.now) (map X.shown exchanges.now)
-        (holds out) stretch) }
-    ensures listed { IfSome result (λ part. part.server < length claim.now.groups.items) }
-{
-    let low = exchange_named(exchanges, entry.0)?;
-    let high = exchange_named(exchanges, entry.1)?;
-    if low.server != high.server || out.contains(claim.groups[usize::from(low.server)]) {
-        return None;
-    }
-    Some(part_of(claim, stretch, &low, &high))
-}
-
-/// Adds what an entry says over a stretch, if there's room.
-fn add_part<X: ToExchange>(
-    parts: &mut ArrayVec<Part, 32>,
-    exchanges: &[X],
-    claim: &Claim,
-    out: Groups,
-    stretch: Stretch,
-    entry: (u32, u32),
-)
-    requires exchanges { All (IsLawful (length claim.now.servers.items))
-        (map X.shown exchanges.now) }
-    requires stretch { IsPiece stretch.begin stretch.end }
-    requires parts { AreSaid (claim_data claim.now) (map X.shown exchanges.now) (holds out) stretch
-        parts.old.items }
-    ensures { AreSaid (claim_data claim.now) (map X.shown exchanges.now) (holds out) stretch
-        parts.new.items }
-{
-    if parts.is_full() {
-        return;
-    }
-    if let Some(part) = part_named(exchanges, claim, out, stretch, entry) {
-        parts.push(part);
-    }
-}
-
-/// What the servers outside these groups say over a stretch.
-fn parts_without<X: ToExchange>(
-    exchanges: &[X],
-    claim: &Claim,
-    tables: &[Table],
-    out: Groups,
-    stretch: Stretch,
-) -> ArrayVec<Part, 32>
-    requires exchanges { All (IsLawful (length claim.now.servers.items))
-        (map X.shown exchanges.now) }
-    requires stretch { IsPiece stretch.begin stretch.end }
-    ensures { AreSaid (claim_data claim.now) (map X.shown exchanges.now) (holds out) stretch
-        result.items }
-{
-    let said = said_over(tables, claim, out, stretch);
-    let mut parts = ArrayVec::new();
-    for entry in said.entries.as_slice() {
-        add_part(&mut parts, exchanges, claim, out, stretch, *entry);
-    }
-    parts
-}
 
 /// How many groups may be false besides these.
 fn false_besides(claim: &Claim, out: Groups) -> u8
@@ -112,14 +40,18 @@ fn hull_without<X: ToExchange>(
     requires exchanges { All (IsLawful (length claim.now.servers.items))
         (map X.shown exchanges.now) }
     requires stretch { IsPiece stretch.begin stretch.end }
-    ensures { HoldsErrorOf (claim_data claim.now) (map X.shown exchanges.now) stretch
+    requires tables { AreTablesOf (claim_data claim.now) (map X.shown exchanges.now) tables.now }
+    requires listed { AreListed (length claim.now.groups.items) tables.now }
+    ensures error { HoldsErrorOf (claim_data claim.now) (map X.shown exchanges.now) stretch
         (HasFalse (claim_data claim.now) (holds out)) result }
+    ensures exact { IsHullWithout (claim_data claim.now) (map X.shown exchanges.now) stretch
+        (holds out) result }
 {
     hulls_hold_the_error();
     every_list_has_a_hull();
-    let parts = parts_without(exchanges, claim, tables, out, stretch);
+    let said = said_over(tables, claim, out, stretch);
     let few = false_besides(claim, out);
-    piece_hull(parts.as_slice(), claim.groups.as_slice(), few)
+    piece_hull(said.parts.as_slice(), claim.groups.as_slice(), few)
 }
 
 /// The least hull that holds what either of two holds.
@@ -150,8 +82,12 @@ fn hull_over<X: ToExchange>(
     requires exchanges { All (IsLawful (length claim.now.servers.items))
         (map X.shown exchanges.now) }
     requires stretch { IsPiece stretch.begin stretch.end }
-    ensures { All (λ out. HoldsErrorOf (claim_data claim.now) (map X.shown exchanges.now) stretch
-        (HasFalse (claim_data claim.now) (holds out)) result) cases.now }
+    requires tables { AreTablesOf (claim_data claim.now) (map X.shown exchanges.now) tables.now }
+    requires listed { AreListed (length claim.now.groups.items) tables.now }
+    ensures error { All (λ out. HoldsErrorOf (claim_data claim.now) (map X.shown exchanges.now)
+        stretch (HasFalse (claim_data claim.now) (holds out)) result) cases.now }
+    ensures exact { IsHullOf (claim_data claim.now) (map X.shown exchanges.now) stretch cases.now
+        result }
 {
     let mut hull = Hull::Empty;
     for out in cases {
@@ -162,7 +98,9 @@ fn hull_over<X: ToExchange>(
 
 /// These covers, or if there may be more, the empty set alone, which every set holds.
 fn cases_of(covers: ArrayVec<Groups, 64>) -> ArrayVec<Groups, 64>
-    ensures { (whole : ℕ → Bool) → HoldsOneOr64 covers.items whole → HoldsOne result.items whole }
+    ensures one { (whole : ℕ → Bool) → HoldsOneOr64 covers.items whole →
+        HoldsOne result.items whole }
+    ensures of_covers { AreOfCovers covers.items result.items }
 {
     if covers.is_full() {
         let mut cases = ArrayVec::new();
@@ -182,8 +120,10 @@ fn cases<X: ToExchange>(
 ) -> Result<ArrayVec<Groups, 64>, AllocError>
     requires exchanges { All (IsLawful (length claim.now.servers.items))
         (map X.shown exchanges.now) }
-    ensures { IfOk result (λ cases. AreCases (claim_data claim.now) (map X.shown exchanges.now)
-        cases.items) }
+    ensures cases { IfOk result (λ cases. AreCases (claim_data claim.now)
+        (map X.shown exchanges.now) cases.items) }
+    ensures of_covers { IfOk result (λ cases. AreCasesOfCovers (claim_data claim.now)
+        (map X.shown exchanges.now) cases.items) }
 {
     tables_settle_covers();
     false_groups_are_a_cover();
@@ -206,7 +146,10 @@ pub fn hull_by_covers<X: ToExchange>(
         (map X.shown exchanges.now) }
     requires few { length exchanges.now ≤ 1_000_000 }
     requires stretch { IsPiece stretch.begin stretch.end }
-    ensures { IfOk result (HoldsError (claim_data claim.now) (map X.shown exchanges.now) stretch) }
+    ensures error { IfOk result
+        (HoldsError (claim_data claim.now) (map X.shown exchanges.now) stretch) }
+    ensures exact { IfOk result
+        (IsHullByCovers (claim_data claim.now) (map X.shown exchanges.now) stretch) }
 {
     let cases = cases(alloc, exchanges, claim)?;
     let tables = tables_of(alloc, exchanges, claim)?;
