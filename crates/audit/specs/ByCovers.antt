@@ -1,9 +1,9 @@
 -- The report of `at` by covers: of a reading the hull of the clock's error over the ticks for which
--- the clock showed it, and when that was. Which exchanges the hull is of has no definition, so the
--- report is one on what was found.
-use Rattle.std.specs.Prelude.{◌≡◌, ◌==◌, ◌&&◌, ℕ, ◌++◌, [], ◌∷◌, Bool, true, false, List, All, Option, None, Some, if◌then◌else◌, pos, slice_get}
+-- the clock showed it, and when that was. The hull by covers is a relation, so the report is one on
+-- what was found.
+use Rattle.std.specs.Prelude.{◌≡◌, ◌==◌, ◌<◌, ◌&&◌, ℕ, ◌++◌, [], ◌∷◌, Bool, true, false, List, All, Option, None, Some, if◌then◌else◌, length, pos, slice_get}
 use Rattle.audit.specs.Check.{GiveSecond}
-use Rattle.audit.specs.Common.{Course, FeedState, Fits, HoldsErrorByCovers, Hull, IsObservedIn, IsThen, Memory, ReadingData, Report, Style, Unbounded, Yes, parts_text, reading_heading, reading_line, reading_over, refused, rows_from, stretch_over, times_read, true_text, whole_text}
+use Rattle.audit.specs.Common.{Course, FeedState, Fits, HoldsErrorByCovers, Hull, IsHullByCovers, IsNearlyAttained, IsObservedIn, IsThen, Memory, ReadingData, Report, Style, Unbounded, Yes, parts_text, reading_heading, reading_line, reading_over, refused, rows_from, stretch_over, times_read, true_text, whole_text}
 use Rattle.audit.specs.Evidence.{EvidenceData, GiveEvidence, OfClaimAndCapture}
 use Rattle.audit.specs.Question.{Finding, QuestionData, no_finding}
 use Rattle.audit.specs.Reading.{ticks_asked}
@@ -27,11 +27,16 @@ are_of [] (found ∷ more) = false
 are_of (r ∷ readings) [] = false
 are_of (r ∷ readings) (found ∷ more) = is_of r found && are_of readings more
 
--- In every course of events that fits the exchanges, whenever the clock shows a reading of these
--- ticks, its error lies in the hull, and true time between the two that are shown. An unbounded
--- hull says nothing, and an empty one that no course that fits has such a moment.
+-- This is the hull by covers over these ticks. In every course of events that fits the exchanges,
+-- whenever the clock shows a reading of them, its error lies in the hull, and true time between the
+-- two that are shown. An unbounded hull says nothing, and an empty one that no course that fits has
+-- such a moment. If all minimal covers are known, some course comes near each end.
 pub record IsHeldOver (e : EvidenceData) (found : HullOver) : Type 0 where
+  pub hull : IsHullByCovers e.claim e.collection.exchanges
+      (stretch_over (pos found.begin) (pos found.end)) found.hull
   pub error : HoldsErrorByCovers e.claim e.collection.exchanges
+      (stretch_over (pos found.begin) (pos found.end)) found.hull
+  pub ends : length hull.of.covers < 64 → IsNearlyAttained e.claim e.collection.exchanges
       (stretch_over (pos found.begin) (pos found.end)) found.hull
   pub time : (course : Course) → Fits e.claim e.collection.exchanges course
       → IsObservedIn course (pos found.begin) (pos found.end)

@@ -53,7 +53,8 @@ pub use Rattle.cover_checker.specs.Traceability.{IsTraceable as IsTraceableToAll
 pub use Rattle.cover_checker.specs.Verdict.{IsVerdict as IsCoverVerdict}
 unfoldable pub use Rattle.cover_checker.specs.VerdictTest.{verdict_of as cover_verdict_of}
 pub use Rattle.cover_checker.specs.declared.verdict.CoverVerdict.{CoverVerdict}
-pub use Rattle.cover_finder.specs.Hull.{HoldsError as HoldsErrorByCovers, IsFinderFor}
+pub use Rattle.cover_finder.specs.Finder.{IsFinderFor}
+pub use Rattle.cover_finder.specs.Hull.{HoldsError as HoldsErrorByCovers, IsHullByCovers, IsNearlyAttained}
 pub use Rattle.cover_finder.specs.Answer.{AnswerData, IsShownByCoversAlone, answer_data, of_finder, shown_by_covers}
 pub use Rattle.era_unfold.specs.Nanoseconds.{nanoseconds_per_second}
 pub use Rattle.era_unfold.specs.Ratio.{IsCeiling, IsFloor, ceiling_of, floor_of}

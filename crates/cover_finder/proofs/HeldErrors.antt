@@ -9,8 +9,8 @@ use Rattle.intersection.specs.Hull.{IsHull}
 use Rattle.lemma_base.proofs.List.{slice_get-below}
 use Rattle.span_cover.specs.Group.{group_intervals}
 use Rattle.cover_finder.specs.Common.{ClaimData, Course, Empty, Exchange, Groups, HasFalse, HoldsErrorOf, HoldsOne, HoldsOneOr64, Hull, IsInHull, IsLawful as IsLawfulExchange, IsSaidBySome, Part, Stretch, holds, holds_false, size_of}
-use Rattle.cover_finder.specs.Hull.{AreCases, AreOfCovers, HoldsError, IsHullByCovers, IsHullOf, IsHullWithout, join_of}
-use Rattle.cover_finder.proofs.Hulls.{Holds, join_first, join_second, of_cases}
+use Rattle.cover_finder.specs.Hull.{AreOfCovers, HoldsError, IsHullByCovers, IsHullOf, IsHullWithout, join_of}
+use Rattle.cover_finder.proofs.Hulls.{AreCases, Holds, join_first, join_second, of_cases}
 
 -- ---- the least hull that holds several
 
@@ -61,10 +61,10 @@ HullsHold = (claim : ClaimData) (xs : List Exchange) (out : ℕ → Bool) (stret
 
 module _ (claim : ClaimData) (xs : List Exchange) (stretch : Stretch) (lawful : IsLawful claim)
     (each : All (IsLawfulExchange (length claim.servers)) xs) (hull : Hull) where
-  are_cases : (by : IsHullByCovers claim xs stretch hull) → AreCases claim xs by.cases
+  are_cases : (by : IsHullByCovers claim xs stretch hull) → AreCases claim xs stretch by.cases
   are_cases by course fits =
-      one_of_cases by.covers by.cases (holds_false claim.groups course.is_false) by.of_covers
-      (by.are.all_or_64 (holds_false claim.groups course.is_false)
+      one_of_cases by.of.covers by.cases (holds_false claim.groups course.is_false) by.of.of_covers
+      (by.of.are.all_or_64 (holds_false claim.groups course.is_false)
       (false_groups_cover claim lawful.drift_in_range xs (listed_in_groups claim xs lawful each) course fits)
       fits.few_false)
 

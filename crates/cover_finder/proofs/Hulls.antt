@@ -1,21 +1,15 @@
 -- Hulls by covers.
-use Rattle.std.proofs.Common.{◌≡◌, ◌+◌, ◌<◌, ◌≤◌, ◌≤ℤ◌, ◌*ℤ◌, ℕ, ℤ, pos, Bool, List, [], ◌∷◌, ◌++◌, length, take, get_or, All, arith, inl, inr}
+use Rattle.std.proofs.Common.{◌≡◌, ◌+◌, ◌<◌, ◌≤ℤ◌, ◌*ℤ◌, ℕ, ℤ, pos, List, [], ◌∷◌, ◌++◌, length, take, get_or, All, arith, ap, inl, inr, refl, subst, sym, ⊎_elim, ◌∙◌, Some}
 use Rattle.std.proofs.lemmas.Int.{ints, clamps}
-use Rattle.std.proofs.lemmas.List.Elements.{All-head, All-more, All-push, All-tail}
+use Rattle.std.proofs.lemmas.List.Elements.{All-head, All-tail}
+use Rattle.std.proofs.lemmas.List.{length-append, take_more}
+use Rattle.std.proofs.lemmas.List.Sums.{fold-append}
+use Rattle.std.specs.List.{slice_get}
 use Rattle.std.specs.Int.{int_max, int_min}
 use Rattle.intersection.specs.Fineness.{times_le}
-use Rattle.cover_finder.specs.Common.{Bounded, ClaimData, Course, Empty, Exchange, Fits, Groups, HasFalse, HoldsErrorOf, HoldsOne, Hull, IsInHull, IsObservedIn, IsSaidBySome, Part, Stretch, Unbounded, holds, holds_false}
-use Rattle.cover_finder.specs.Hull.{AreCases, AreSaid, HoldsError, join_of}
-
--- ---- parts
-
-pub with_part : (claim : ClaimData) (xs : List Exchange) (out : ℕ → Bool) (stretch : Stretch) (parts items : List Part)
-    (part : Part) → items ≡ parts ++ part ∷ [] → AreSaid claim xs out stretch parts
-    → IsSaidBySome claim xs out stretch part → part.server < length claim.groups → AreSaid claim xs out stretch items
-with_part claim xs out stretch parts items part is before says below = record {
-  said = rw is (All-push (IsSaidBySome claim xs out stretch) parts part before.said says);
-  listed = rw is (All-push (λ p. p.server < length claim.groups) parts part before.listed below);
-}
+use Rattle.cover_finder.specs.Common.{Bounded, ClaimData, Course, Empty, Exchange, Fits, Groups, HasFalse, HoldsErrorOf, HoldsOne, Hull, IsInHull, IsObservedIn, Stretch, Unbounded, holds, holds_false}
+use Rattle.cover_finder.specs.Hull.{HoldsError, IsHullOf, IsHullWithout, join_of}
+use Rattle.cover_finder.proofs.List.{pushed_at}
 
 -- ---- the least hull that holds two
 
@@ -54,15 +48,53 @@ module _ (claim : ClaimData) (xs : List Exchange) (stretch : Stretch) where
   abbrev pub Holds : Hull → Groups → Type 0
   Holds hull out = HoldsErrorOf claim xs stretch (HasFalse claim (holds out)) hull
 
-  pub with_one : (cases : List Groups) (k : ℕ) (d : Groups) (hull more whole : Hull) → k < length cases
-      → All (Holds hull) (take k cases) → Holds more (get_or cases k d)
-      → ((course : Course) → IsInHull course hull → IsInHull course whole)
-      → ((course : Course) → IsInHull course more → IsInHull course whole)
-      → All (Holds whole) (take (k + 1) cases)
-  with_one cases k d hull more whole below all last first second =
-      All-more (Holds whole) cases k d below
-      (λ j e under course fits among observed. first course (all j e under course fits among observed))
-      (λ course fits among observed. second course (last course fits among observed))
+  pub no_hulls : IsHullOf claim xs stretch [] Empty
+  no_hulls = record {
+    hulls = [];
+    same_number = refl;
+    each = λ k out one at_out at_one. absurd cc;
+    joined = refl;
+  }
+
+  module _ (before : List Groups) (hull : Hull) (is : IsHullOf claim xs stretch before hull) (out : Groups)
+      (more : Hull) (own : IsHullWithout claim xs stretch (holds out) more) where
+    each_more : (k : ℕ) (o : Groups) (h : Hull) → slice_get (before ++ out ∷ []) k ≡ Some o
+        → slice_get (is.hulls ++ more ∷ []) k ≡ Some h → IsHullWithout claim xs stretch (holds o) h
+    each_more k o h at_o at_h = ⊎_elim
+        (λ old_o. ⊎_elim
+        (λ old_h. is.each k o h old_o.1 old_h.1)
+        (λ new_h. absurd (omega (arith, old_o.0, new_h.0, is.same_number)))
+        (pushed_at is.hulls more k h at_h))
+        (λ new_o. ⊎_elim
+        (λ old_h. absurd (omega (arith, new_o.0, old_h.0, is.same_number)))
+        (λ new_h. subst (λ (g : Groups). IsHullWithout claim xs stretch (holds g) h) new_o.1
+        (subst (λ (g : Hull). IsHullWithout claim xs stretch (holds out) g) new_h.1 own))
+        (pushed_at is.hulls more k h at_h))
+        (pushed_at before out k o at_o)
+
+    hulls_more : IsHullOf claim xs stretch (before ++ out ∷ []) (join_of hull more)
+    hulls_more = record {
+      hulls = is.hulls ++ more ∷ [];
+      same_number = omega (
+        arith,
+        is.same_number,
+        length-append is.hulls (more ∷ []),
+        length-append before (out ∷ []),
+      );
+      each = each_more;
+      joined = ap (λ (h : Hull). join_of h more) is.joined ∙ sym (fold-append join_of Empty is.hulls (more ∷ []));
+    }
+
+  pub hull_of_more : (cases : List Groups) (k : ℕ) (d : Groups) (hull more : Hull) → k < length cases
+      → IsHullOf claim xs stretch (take k cases) hull → IsHullWithout claim xs stretch (holds (get_or cases k d)) more
+      → IsHullOf claim xs stretch (take (k + 1) cases) (join_of hull more)
+  hull_of_more cases k d hull more below is own =
+      subst (λ (cs : List Groups). IsHullOf claim xs stretch cs (join_of hull more)) (sym (take_more cases k d below))
+      (hulls_more (take k cases) hull is (get_or cases k d) more own)
+
+  -- each course that fits has a false server in all groups of one of these sets
+  abbrev pub AreCases : List Groups → Type 0
+  AreCases cases = (course : Course) → Fits claim xs course → HoldsOne cases (holds_false claim.groups course.is_false)
 
   -- where a course has a false server in all groups of one, it holds the error in it
   of_one : (hull : Hull) (cases : List Groups) → All (Holds hull) cases → (course : Course) → Fits claim xs course
@@ -74,7 +106,7 @@ module _ (claim : ClaimData) (xs : List Exchange) (stretch : Stretch) where
   of_one hull (out ∷ cases) all course fits (inr later) observed =
       of_one hull cases (All-tail (Holds hull) out cases all) course fits later observed
 
-  pub of_cases : (hull : Hull) (cases : List Groups) → All (Holds hull) cases → AreCases claim xs cases
+  pub of_cases : (hull : Hull) (cases : List Groups) → All (Holds hull) cases → AreCases cases
       → HoldsError claim xs stretch hull
   of_cases hull cases all are course fits among observed =
       of_one hull cases all course fits (are course fits) observed

@@ -54,20 +54,20 @@ module _ (claim : ClaimData) (xs : List Exchange) (stretch : Stretch) where
           case.small ends.2.0,
     )
 
-  module _ (hull : Hull) (by : IsHullByCovers claim xs stretch hull) (few : length by.covers < 64) where
+  module _ (hull : Hull) (by : IsHullByCovers claim xs stretch hull) (few : length by.of.covers < 64) where
     case_of : (number : ℕ) (one : Hull) → slice_get by.hull_of.hulls number ≡ Some one → IsOfCase one
     case_of number one stands =
         let below = slice_get_within by.hull_of.hulls number one stands in
         let case = slice_get-below by.cases number (omega (arith, by.hull_of.same_number)) in
-        let is_cover : slice_get by.covers number ≡ Some case.0 =
+        let is_cover : slice_get by.of.covers number ≡ Some case.0 =
         subst (λ (cases : List Groups). slice_get cases number ≡ Some case.0)
-        (covers_are by.covers by.cases by.of_covers few) case.1 in
+        (covers_are by.of.covers by.cases by.of.of_covers few) case.1 in
         record {
           out = case.0;
           without = by.hull_of.each number case.0 one case.1 stands;
-          cover = All-slice_get (λ cover. IsCover claim xs (holds cover)) by.covers number case.0 by.are.are is_cover;
-          small = All-slice_get (λ cover. size_of claim (holds cover) ≤ claim.false_max) by.covers number case.0
-              by.are.few is_cover;
+          cover = All-slice_get (λ cover. IsCover claim xs (holds cover)) by.of.covers number case.0 by.of.are.are is_cover;
+          small = All-slice_get (λ cover. size_of claim (holds cover) ≤ claim.false_max) by.of.covers number case.0
+              by.of.are.few is_cover;
         }
 
     low_of : (lo : ℤ) → HasOne (HasLow lo) by.hull_of.hulls → IsHeld lo
@@ -78,7 +78,7 @@ module _ (claim : ClaimData) (xs : List Exchange) (stretch : Stretch) where
 
   module _ (lawful : IsLawful claim) (each : All (IsLawfulExchange (length claim.servers)) xs)
       (piece : IsPiece stretch.begin stretch.end) where
-    pub nearly_attained : (hull : Hull) (by : IsHullByCovers claim xs stretch hull) → length by.covers < 64
+    pub nearly_attained : (hull : Hull) (by : IsHullByCovers claim xs stretch hull) → length by.of.covers < 64
         → IsNearlyAttained claim xs stretch hull
     nearly_attained Unbounded by few = tt
     nearly_attained Empty by few = tt

@@ -18,9 +18,12 @@ pub use Rattle.checker.specs.Traceability.{samples_of}
 pub use Rattle.checker.specs.Course.{Course, Fits}
 pub use Rattle.checker.specs.Groups.{holds_false}
 pub use Rattle.checker.specs.Traceability.{IsInHull, IsObservedIn}
-pub use Rattle.cover_checker.specs.Hull.{HasFalse, HoldsErrorOf, IsSaidBySome}
-pub use Rattle.cover_checker.specs.Interval.{high_over, low_over}
+pub use Rattle.cover_checker.specs.Hull.{HasFalse, HoldsErrorOf, IsSaid, IsSaidBySome}
+pub use Rattle.cover_checker.specs.Interval.{ahead, high_over, low_over, part_of, rise}
+pub use Rattle.era_unfold.specs.Ratio.{ceiling_of}
 pub use Rattle.error_marks.specs.Mark.{high_mark, low_mark}
+pub use Rattle.error_marks.specs.Range.{IsWithinRange}
+pub use Rattle.error_marks.specs.declared.mark.Mark.{Mark}
 pub use Rattle.feasibility.specs.Cover.{group_of, size_of}
 pub use Rattle.feasibility.specs.Groups.{HoldsOne, HoldsOneOr64, holds}
 pub use Rattle.feasibility.specs.LeastCovers.{AreLeastCovers}
@@ -28,7 +31,7 @@ pub use Rattle.feasibility.specs.declared.groups.Groups.{Groups}
 pub use Rattle.intersection.specs.declared.kinds.Hull.{Hull}
 pub use Rattle.intersection.specs.declared.kinds.Hull.TheVariants.{Bounded, Empty, Unbounded}
 pub use Rattle.sample_interval.specs.Moment.{error_of}
-pub use Rattle.sample_interval.specs.Widening.{widening}
+pub use Rattle.sample_interval.specs.Widening.{IsRate, billion, widening}
 pub use Rattle.span_cover.specs.Group.{piece_hull}
 pub use Rattle.span_cover.specs.Piece.{IsPiece}
 pub use Rattle.span_cover.specs.declared.part.Part.{Part}

@@ -1,7 +1,7 @@
 -- Hulls by covers: what the clock's error can't be outside of, in any course that fits.
 use Rattle.std.specs.Prelude.{◌≡◌, ⊤, ℕ, ◌-◌, ◌<◌, ◌≤◌, ℤ, pos, ◌+ℤ◌, ◌-ℤ◌, ◌*ℤ◌, ◌≤ℤ◌, ◌<ℤ◌, Bool, false, List, [], ◌∷◌, All, AllPairs, Any, Some, fold, length, ◌⊎◌, slice_get, unsigned_abs}
 use Rattle.std.specs.Int.{int_max, int_min}
-use Rattle.cover_finder.specs.Common.{AreLeastCovers, Bounded, ClaimData, Course, Empty, Exchange, Fits, Groups, HoldsErrorOf, HoldsOne, Hull, IsSaidBySome, Part, Stretch, Unbounded, error_of, group_of, high_mark, high_over, holds, holds_false, low_mark, low_over, piece_hull, size_of, widening}
+use Rattle.cover_finder.specs.Common.{AreLeastCovers, Bounded, ClaimData, Course, Empty, Exchange, Fits, Groups, HoldsErrorOf, Hull, IsSaidBySome, Part, Stretch, Unbounded, error_of, group_of, high_mark, high_over, holds, low_mark, low_over, piece_hull, size_of, widening}
 
 -- A part is all that its server says over a stretch: none of the server's low marks says that the
 -- error is higher, and none of its high marks that it is lower.
@@ -59,19 +59,19 @@ abbrev pub AreOfCovers : List Groups → List Groups → Type 0
 AreOfCovers covers cases =
     ((length covers < 64) × (cases ≡ covers)) ⊎ ((64 ≤ length covers) × IsWithoutCovers cases)
 
+-- these are the cases of the minimal covers of the conflicts
+pub record AreCasesOfCovers (claim : ClaimData) (xs : List Exchange) (cases : List Groups)
+    : Type 0 where
+  pub covers : List Groups
+  pub are : AreLeastCovers claim xs covers
+  pub of_covers : AreOfCovers covers cases
+
 -- the hull by covers over a stretch: of the minimal covers of the conflicts
 pub record IsHullByCovers (claim : ClaimData) (xs : List Exchange) (stretch : Stretch)
     (hull : Hull) : Type 0 where
-  pub covers : List Groups
-  pub are : AreLeastCovers claim xs covers
   pub cases : List Groups
-  pub of_covers : AreOfCovers covers cases
+  pub of : AreCasesOfCovers claim xs cases
   pub hull_of : IsHullOf claim xs stretch cases hull
-
--- each course that fits has a false server in all groups of one of these sets
-abbrev pub AreCases : ClaimData → List Exchange → List Groups → Type 0
-AreCases claim xs cases = (course : Course) → Fits claim xs course
-    → HoldsOne cases (holds_false claim.groups course.is_false)
 
 -- In every course that fits, the error lies in the hull at every moment whose reading lies in the
 -- stretch. An unbounded hull says nothing, and an empty one that no course has such a moment.

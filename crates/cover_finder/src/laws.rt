@@ -28,5 +28,5 @@ pub fn ends_are_nearly_attained()
     ensures { (claim : ClaimData) (xs : List Exchange) (stretch : Stretch) (hull : Hull) →
         IsLawful claim → All (IsLawfulExchange (length claim.servers)) xs →
         IsPiece stretch.begin stretch.end → (by : IsHullByCovers claim xs stretch hull) →
-        length by.covers < 64 → IsNearlyAttained claim xs stretch hull }
+        length by.of.covers < 64 → IsNearlyAttained claim xs stretch hull }
 {}

@@ -16,7 +16,7 @@
 //! How a moved end is found, from `highest` of `cover_finder/src/side.rt`, with its proof:
 //!
 //! ```text
-//! let middle = self.middle(stretch);
+//! let middle = middle_of(self.early.rate, self.late.rate, stretch);
 //! let early = self.early.highest(middle, stretch.end);
 //! ```
 
@@ -25,6 +25,7 @@
 mod answer;
 mod hull;
 pub mod laws;
+mod peak;
 mod reach;
 mod refuted;
 mod ridge;

@@ -1,6 +1,8 @@
 //! The longest pieces of a case.
 
-ghost use Rattle.std.specs.Prelude.{◌<◌, ◌≤◌, ◌≤ℤ◌, pos};
+ghost use Rattle.std.specs.Prelude.{◌<◌, ◌≤◌, ◌≤ℤ◌, length, pos};
+ghost use Rattle.cover_finder.specs.Common.{IsPiece};
+ghost use Rattle.cover_finder.specs.Table.{AreListed};
 
 use crate::table::{Table, said_over};
 use certificate::Piece;
@@ -14,7 +16,10 @@ use std::alloc::{AllocError, Global};
 const LOOKS: u8 = 6;
 
 /// The readings from one to another.
-fn stretch_of(begin: u64, end: u64) -> Stretch {
+fn stretch_of(begin: u64, end: u64) -> Stretch
+    requires { begin ≤ end }
+    ensures { IsPiece result.begin result.end }
+{
     Stretch {
         begin: i128::from(begin),
         end: i128::from(end),
@@ -29,6 +34,7 @@ pub(crate) struct Search<'a> {
     pub(crate) claim: &'a Claim,
     pub(crate) out: Groups,
     pub(crate) more: u8,
+    ghost listed: { AreListed (length claim.now.groups.items) tables.now },
 }
 
 /// Where the longest pieces of a case stop.
@@ -69,7 +75,9 @@ impl<'a> Search<'a> {
     }
 
     /// The hull over a stretch of what the groups say that aren't left out.
-    fn hull(&self, begin: u64, end: u64) -> Hull {
+    fn hull(&self, begin: u64, end: u64) -> Hull
+        requires { begin ≤ end }
+    {
         let claim = self.claim;
         let said = said_over(self.tables, claim, self.out, stretch_of(begin, end));
         let few = claim
@@ -95,11 +103,17 @@ impl<'a> Search<'a> {
         u64::try_from(i128::from(end).saturating_add(more)).unwrap_or(end)
     }
 
-    /// Where the longest piece from `begin` ends, if the one to `next` shows the bound. It is
-    /// looked for at `near` first, and then where the hulls that are seen say, a few times.
-    fn longest_end(&self, begin: u64, next: u64, near: u64) -> u64 {
+    /// Where the longest piece from `begin` ends, no further than at `last`, if the one to `next`
+    /// shows the bound. It is looked for at `near` first, and then where the hulls that are seen
+    /// say, a few times.
+    fn longest_end(&self, begin: u64, next: u64, last: u64, near: u64) -> u64
+        requires next { begin ≤ next }
+        requires last { next ≤ last }
+        ensures from_begin { begin ≤ result }
+        ensures to_last { result ≤ last }
+    {
         let mut low = next;
-        let mut high = (self.claim.last as u64).max(next);
+        let mut high = last;
         let mut near = near;
         let mut looks = 0u8;
         while low < high {
@@ -128,12 +142,12 @@ impl<'a> Search<'a> {
         let mut begin = self.claim.first as u64;
         let mut length = 0;
         let mut pieces = Vec::new(alloc);
-        for _ in 0..left {
+        'pieces: for _ in 0..left {
             let next = begin.saturating_add(1).min(last);
             if !is_inside(self.bound(), self.hull(begin, next)) {
                 return Ok((pieces, Stop::Unshown([begin, next])));
             }
-            let end = self.longest_end(begin, next, begin.saturating_add(length));
+            let end = self.longest_end(begin, next, last, begin.saturating_add(length));
             let stretch = stretch_of(begin, end);
             let entries = said_over(self.tables, self.claim, self.out, stretch).entries;
             pieces.push(Piece { upto: end, entries })?;

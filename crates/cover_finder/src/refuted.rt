@@ -3,6 +3,7 @@
 ghost use Rattle.std.specs.Prelude.{◌≡◌, length, map, All, IfOk};
 ghost use Rattle.cover_finder.specs.Common.{claim_data, conflicts_data, IsConflictTable, IsLawful};
 ghost use Rattle.cover_finder.specs.Search.{IsRefutedIfFound};
+ghost use Rattle.cover_finder.specs.Table.{AreListed};
 
 use crate::reach::{Search, Stop};
 use crate::table::Table;
@@ -33,6 +34,7 @@ fn refutation_under<X: ToExchange>(
     requires groups { (conflicts_data conflicts.now).groups ≡ length claim.now.groups.items }
     requires table { IsConflictTable (claim_data claim.now) (map X.shown exchanges.now)
         (conflicts_data conflicts.now).is_broken (conflicts_data conflicts.now).is_edge }
+    requires tables { AreListed (length claim.now.groups.items) tables.now }
     ensures { IfOk result
         (IsRefutedIfFound (claim_data claim.now) (map X.shown exchanges.now)) }
 {
@@ -71,6 +73,7 @@ pub(crate) fn find_refutation<X: ToExchange>(
     requires groups { (conflicts_data conflicts.now).groups ≡ length claim.now.groups.items }
     requires table { IsConflictTable (claim_data claim.now) (map X.shown exchanges.now)
         (conflicts_data conflicts.now).is_broken (conflicts_data conflicts.now).is_edge }
+    requires tables { AreListed (length claim.now.groups.items) tables.now }
     ensures { IfOk result
         (IsRefutedIfFound (claim_data claim.now) (map X.shown exchanges.now)) }
 {

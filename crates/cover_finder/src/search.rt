@@ -3,6 +3,7 @@
 ghost use Rattle.std.specs.Prelude.{◌≡◌, ◌≤◌, length, map, All, IfOk, IsTrue};
 ghost use Rattle.cover_finder.specs.Common.{claim_data, certificate_data, conflicts_data, IsConflictTable, IsFew, IsLawful};
 ghost use Rattle.cover_finder.specs.Search.{Finds, IsCarriedIfFound};
+ghost use Rattle.cover_finder.specs.Table.{AreListed};
 
 use crate::reach::{Search, Stop};
 use crate::refuted::find_refutation;
@@ -59,7 +60,9 @@ fn cases_of(
     tables: &[Table],
     claim: &Claim,
     covers: &[Groups],
-) -> Result<Option<Vec<Case>>, AllocError> {
+) -> Result<Option<Vec<Case>>, AllocError>
+    requires { AreListed (length claim.now.groups.items) tables.now }
+{
     let mut cases = Vec::new(alloc);
     let mut left = MAX_PIECES;
     for out in covers {
@@ -139,6 +142,7 @@ fn certificate_of<X: ToExchange>(
     requires groups { (conflicts_data conflicts.now).groups ≡ length claim.now.groups.items }
     requires table { IsConflictTable (claim_data claim.now) (map X.shown exchanges.now)
         (conflicts_data conflicts.now).is_broken (conflicts_data conflicts.now).is_edge }
+    requires tables { AreListed (length claim.now.groups.items) tables.now }
     ensures { IfOk result
         (IsCarriedIfFound (claim_data claim.now) (map X.shown exchanges.now)) }
 {
@@ -166,7 +170,8 @@ pub fn find_by_covers<X: ToExchange>(
 {
     let conflicts = conflicts_of(alloc, exchanges, claim)?;
     let covers = conflicts.covers(claim.false_max);
-    let (covers, tables) = (covers.as_slice(), tables_of(alloc, exchanges, claim)?);
+    let covers = covers.as_slice();
+    let tables = tables_of(alloc, exchanges, claim)?;
     let tables = tables.as_slice();
     let carried = certificate_of(alloc, exchanges, claim, &conflicts, covers, tables)?;
     if let Some(certificate) = carried {

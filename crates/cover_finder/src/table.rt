@@ -1,10 +1,14 @@
-//! What servers say over any piece.
+//! What servers say over any stretch.
 
-ghost use Rattle.std.specs.Prelude.{◌≡◌, ◌<◌, ◌≤◌, length, map, All};
-ghost use Rattle.cover_finder.specs.Common.{IsLawful};
+ghost use Rattle.std.specs.Prelude.{◌≡◌, ◌+◌, ◌-◌, ◌<◌, ◌≤◌, ◌^◌, neg_ℤ, not, List, length, map, All, IfOk, IfSome, IsPermutation, MatchOption, slice_index, unsigned_abs};
+ghost use Rattle.cover_finder.specs.Common.{ClaimData, Exchange as TheExchange, IsLawful, IsPiece, IsRate, IsWithinRange, claim_data, holds};
+ghost use Rattle.cover_finder.specs.Hull.{AreWhole};
+ghost use Rattle.cover_finder.specs.Side.{AreInOrder};
+ghost use Rattle.cover_finder.specs.Table.{AreInStep, AreListed, AreMarksUpto, AreTablesOf, HasNone, IsAllSaid, IsSaidWithout, IsSideOfServer, IsTableOf};
+ghost use Rattle.cover_finder.specs.Table as spec;
 
-use crate::ridge::End;
-use crate::side::{Numbered, Side};
+use crate::peak::{End, Numbered};
+use crate::side::Side;
 use arrayvec::ArrayVec;
 use claim_file::Claim;
 use cover_checker::exchange_named;
@@ -24,26 +28,103 @@ pub(crate) struct Table {
     highs: Side,
 }
 
-/// What the servers outside some groups say over a piece, and the exchanges by which they do.
+/// What the servers outside some groups say over a stretch, and the exchanges by which they do.
 #[derive(Default, Drop)]
 pub(crate) struct Said {
     pub(crate) parts: ArrayVec<Part, 32>,
     pub(crate) entries: ArrayVec<(u32, u32), 32>,
 }
 
+/// The high mark of an exchange with its error turned.
+fn turned_high(x: &Exchange, claim: &Claim) -> Mark
+    requires { IsLawful (length claim.now.servers.items) x.now }
+    ensures exact { result ≡ spec.turned_high (claim_data claim.now).reading x.now }
+    ensures range { IsWithinRange result }
+{
+    let mark = high_mark(x, claim.reading);
+    Mark {
+        place: mark.place,
+        error: -mark.error,
+    }
+}
+
 /// A mark of an exchange: the low one, or the high one with its error turned.
 fn mark_of(x: &Exchange, claim: &Claim, is_high: bool) -> Mark
     requires { IsLawful (length claim.now.servers.items) x.now }
+    ensures exact { result ≡ spec.mark_of is_high (claim_data claim.now).reading x.now }
+    ensures range { IsWithinRange result }
 {
     if is_high {
-        let mark = high_mark(x, claim.reading);
-        Mark {
-            place: mark.place,
-            error: mark.error.saturating_neg(),
-        }
+        turned_high(x, claim)
     } else {
         low_mark(x, claim.reading)
     }
+}
+
+/// The mark of an exchange, if it is of a server.
+fn mark_for<X: ToExchange>(
+    exchanges: &[X],
+    claim: &Claim,
+    server: u8,
+    is_high: bool,
+    number: u32,
+) -> Option<Numbered>
+    requires exchanges { All (IsLawful (length claim.now.servers.items))
+        (map X.shown exchanges.now) }
+    ensures mark { spec.IsMarkIfOf (spec.mark_of is_high (claim_data claim.now).reading)
+        (map X.shown exchanges.now) server number result }
+    ensures range { IfSome result (λ one. IsWithinRange one.mark) }
+{
+    let x = exchange_named(exchanges, number)?;
+    if x.server != server {
+        return None;
+    }
+    let mark = mark_of(&x, claim, is_high);
+    Some(Numbered { mark, number })
+}
+
+/// Puts marks in the order of their places.
+fn sort_marks(marks: &mut [Numbered])
+    ensures permutation { IsPermutation marks.old marks.new }
+    ensures order { AreInOrder marks.new }
+{
+    marks.sort_unstable_by_key(|one| one.mark.place);
+}
+
+/// The same marks in the order of their places.
+fn sorted(marks: Vec<Numbered>) -> Vec<Numbered>
+    ensures permutation { IsPermutation marks.items result.items }
+    ensures order { AreInOrder result.items }
+{
+    let mut sorted = marks;
+    sort_marks(&mut sorted);
+    sorted
+}
+
+/// The marks of a server, in the order of the exchanges.
+fn gathered<X: ToExchange>(
+    alloc: Global,
+    exchanges: &[X],
+    claim: &Claim,
+    server: u8,
+    is_high: bool,
+) -> Result<Vec<Numbered>, AllocError>
+    requires exchanges { All (IsLawful (length claim.now.servers.items))
+        (map X.shown exchanges.now) }
+    requires few { length exchanges.now ≤ 1_000_000 }
+    ensures are { IfOk result (λ marks.
+        AreMarksUpto (spec.mark_of is_high (claim_data claim.now).reading)
+        (map X.shown exchanges.now) server (length (map X.shown exchanges.now)) marks.items) }
+    ensures range { IfOk result (λ marks. All (λ one. IsWithinRange one.mark) marks.items) }
+{
+    let mut marks = Vec::new(alloc);
+    for number in 0..exchanges.len() as u32 {
+        match mark_for(exchanges, claim, server, is_high, number) {
+            Some(one) => marks.push(one)?,
+            None => {}
+        }
+    }
+    Ok(marks)
 }
 
 /// The marks of a server, in the order of their places.
@@ -57,18 +138,56 @@ fn marks_of<X: ToExchange>(
     requires exchanges { All (IsLawful (length claim.now.servers.items))
         (map X.shown exchanges.now) }
     requires few { length exchanges.now ≤ 1_000_000 }
+    ensures are { IfOk result (λ marks.
+        AreMarksUpto (spec.mark_of is_high (claim_data claim.now).reading)
+        (map X.shown exchanges.now) server (length (map X.shown exchanges.now)) marks.items) }
+    ensures range { IfOk result (λ marks. All (λ one. IsWithinRange one.mark) marks.items) }
+    ensures order { IfOk result (λ marks. AreInOrder marks.items) }
 {
-    let mut marks = Vec::new(alloc);
-    for number in 0..exchanges.len() as u32 {
-        if let Some(x) = exchange_named(exchanges, number)
-            && x.server == server
-        {
-            let mark = mark_of(&x, claim, is_high);
-            marks.push(Numbered { mark, number })?;
-        }
+    let marks = gathered(alloc, exchanges, claim, server, is_high)?;
+    Ok(sorted(marks))
+}
+
+/// The rate by which an end is moved towards a stretch's end: high marks rise, low marks fall.
+fn onwards(is_high: bool, drift_ppb: u32) -> u32
+    requires { IsRate drift_ppb }
+    ensures exact { result ≡ spec.onwards is_high drift_ppb }
+    ensures some { 0 < result }
+{
+    if is_high {
+        1_000_000_000 + drift_ppb
+    } else {
+        1_000_000_000 - drift_ppb
     }
-    marks.sort_unstable_by_key(|one| one.mark.place);
-    Ok(marks)
+}
+
+/// One side of a server's table, if it has an exchange.
+fn side_of<X: ToExchange>(
+    alloc: Global,
+    exchanges: &[X],
+    claim: &Claim,
+    server: u8,
+    is_high: bool,
+) -> Result<Option<Side>, AllocError>
+    requires exchanges { All (IsLawful (length claim.now.servers.items))
+        (map X.shown exchanges.now) }
+    requires few { length exchanges.now ≤ 1_000_000 }
+    ensures { IfOk result (λ found. MatchOption found
+        (HasNone (map X.shown exchanges.now) server)
+        (IsSideOfServer (spec.mark_of is_high (claim_data claim.now).reading)
+        (claim_data claim.now).drift_ppb
+        (spec.onwards is_high (claim_data claim.now).drift_ppb)
+        (spec.onwards (not is_high) (claim_data claim.now).drift_ppb)
+        (map X.shown exchanges.now) server)) }
+{
+    let marks = marks_of(alloc, exchanges, claim, server, is_high)?;
+    if marks.is_empty() {
+        return Ok(None);
+    }
+    let drift = claim.drift_ppb;
+    let (onwards, back) = (onwards(is_high, drift), onwards(!is_high, drift));
+    let side = Side::new(alloc, marks.as_slice(), drift, onwards, back)?;
+    Ok(Some(side))
 }
 
 /// The table of a server, if it has an exchange.
@@ -81,18 +200,21 @@ fn table_of<X: ToExchange>(
     requires exchanges { All (IsLawful (length claim.now.servers.items))
         (map X.shown exchanges.now) }
     requires few { length exchanges.now ≤ 1_000_000 }
+    ensures table { IfOk result (λ found. MatchOption found
+        (HasNone (map X.shown exchanges.now) server)
+        (IsTableOf (claim_data claim.now) (map X.shown exchanges.now))) }
+    ensures server { IfOk result (λ found. IfSome found (λ table. table.server ≡ server)) }
 {
-    let drift = i128::from(claim.drift_ppb);
-    let (up, down) = (1_000_000_000 + drift, 1_000_000_000 - drift);
-    let lows = marks_of(alloc, exchanges, claim, server, false)?;
-    if lows.is_empty() {
+    let Some(lows) = side_of(alloc, exchanges, claim, server, false)? else {
         return Ok(None);
-    }
-    let highs = marks_of(alloc, exchanges, claim, server, true)?;
+    };
+    let Some(highs) = side_of(alloc, exchanges, claim, server, true)? else {
+        return Ok(None);
+    };
     Ok(Some(Table {
         server,
-        lows: Side::new(alloc, lows.as_slice(), drift, down, up)?,
-        highs: Side::new(alloc, highs.as_slice(), drift, up, down)?,
+        lows,
+        highs,
     }))
 }
 
@@ -105,11 +227,17 @@ pub(crate) fn tables_of<X: ToExchange>(
     requires exchanges { All (IsLawful (length claim.now.servers.items))
         (map X.shown exchanges.now) }
     requires few { length exchanges.now ≤ 1_000_000 }
+    ensures are { IfOk result (λ tables.
+        AreTablesOf (claim_data claim.now) (map X.shown exchanges.now) tables.items) }
+    ensures listed { IfOk result (λ tables.
+        AreListed (length claim.now.groups.items) tables.items) }
 {
     let mut tables = Vec::new(alloc);
-    for server in 0..claim.servers.len() {
-        if let Some(table) = table_of(alloc, exchanges, claim, server as u8)? {
-            tables.push(table)?;
+    for server in 0..claim.servers.len() as u8 {
+        let found = table_of(alloc, exchanges, claim, server)?;
+        match found {
+            Some(table) => tables.push(table)?,
+            None => {}
         }
     }
     Ok(tables)
@@ -117,47 +245,81 @@ pub(crate) fn tables_of<X: ToExchange>(
 
 /// What a server says by these ends.
 fn part_of(server: u8, low: End, high: End) -> Part
-    ensures { result.server ≡ server }
+    requires { unsigned_abs high.error ≤ 2 ^ 107 }
+    ensures server { result.server ≡ server }
+    ensures lo { result.interval.lo ≡ low.error }
+    ensures hi { result.interval.hi ≡ neg_ℤ high.error }
 {
     Part {
         server,
         interval: Interval {
             lo: low.error,
-            hi: high.error.saturating_neg(),
+            hi: -high.error,
         },
     }
 }
 
+/// Whether a server is of one of these groups.
+fn is_out(claim: &Claim, out: Groups, server: u8) -> bool
+    requires { server < length claim.now.groups.items }
+    ensures { result ≡ holds out (slice_index (claim_data claim.now).groups server) }
+{
+    out.contains(claim.groups[usize::from(server)])
+}
+
 impl Table {
-    /// Adds what the server says over a stretch, if it is of none of these groups.
-    #[tactic(auto, using(crate::proofs::Parts::with_one))]
-    fn add_said(&self, claim: &Claim, out: Groups, stretch: Stretch, said: &mut Said)
-        requires { All (λ part. part.server < length claim.now.groups.items) said.old.parts.items }
-        ensures { All (λ part. part.server < length claim.now.groups.items) said.new.parts.items }
+    /// What the server says over a stretch, and the exchanges by which it does.
+    fn said(&self, stretch: Stretch) -> Option<(Part, (u32, u32))>
+        requires { IsPiece stretch.begin stretch.end }
+        ensures said { (claim : ClaimData) (xs : List TheExchange) → IsTableOf claim xs self.now →
+            MatchOption result ⊥ (λ said. IsAllSaid claim xs stretch said.1 said.0) }
+        ensures server { IfSome result (λ said. said.0.server ≡ self.now.server) }
     {
-        let server = usize::from(self.server);
-        if claim.groups.len() <= server
-            || out.contains(claim.groups[server])
-            || said.parts.is_full()
-        {
-            return;
+        let low = self.lows.highest(stretch)?;
+        let high = self.highs.highest(stretch)?;
+        Some((part_of(self.server, low, high), (low.number, high.number)))
+    }
+
+    /// The same, unless the server is of one of these groups.
+    fn said_without(
+        &self,
+        claim: &Claim,
+        out: Groups,
+        stretch: Stretch,
+    ) -> Option<(Part, (u32, u32))>
+        requires stretch { IsPiece stretch.begin stretch.end }
+        requires listed { self.now.server < length claim.now.groups.items }
+        ensures said { (xs : List TheExchange) → IsTableOf (claim_data claim.now) xs self.now →
+            IsSaidWithout (claim_data claim.now) xs (holds out) stretch self.now result }
+        ensures server { IfSome result (λ said. said.0.server ≡ self.now.server) }
+    {
+        if is_out(claim, out, self.server) {
+            return None;
         }
-        if let Some(low) = self.lows.highest(stretch)
-            && let Some(high) = self.highs.highest(stretch)
-        {
-            said.parts.push(part_of(self.server, low, high));
-            let _ = said.entries.try_push((low.number, high.number));
-        }
+        self.said(stretch)
     }
 }
 
-/// What the servers outside these groups say over a stretch.
+/// What the servers outside these groups say over a stretch, and the exchanges by which they do.
 pub(crate) fn said_over(tables: &[Table], claim: &Claim, out: Groups, stretch: Stretch) -> Said
-    ensures { All (λ part. part.server < length claim.now.groups.items) result.parts.items }
+    requires stretch { IsPiece stretch.begin stretch.end }
+    requires tables { AreListed (length claim.now.groups.items) tables.now }
+    ensures listed { All (λ part. part.server < length claim.now.groups.items) result.parts.items }
+    ensures whole { (xs : List TheExchange) → AreTablesOf (claim_data claim.now) xs tables.now →
+        AreWhole (claim_data claim.now) xs (holds out) stretch result.parts.items }
+    ensures in_step { (xs : List TheExchange) → AreTablesOf (claim_data claim.now) xs tables.now →
+        AreInStep (claim_data claim.now) xs (holds out) stretch result.entries.items
+        result.parts.items }
 {
     let mut said = Said::default();
     for table in tables {
-        table.add_said(claim, out, stretch, &mut said);
+        match table.said_without(claim, out, stretch) {
+            Some(one) => {
+                said.parts.push(one.0);
+                said.entries.push(one.1);
+            }
+            None => {}
+        }
     }
     said
 }

@@ -1,7 +1,7 @@
 //! What is made for `at` by covers, with one reading.
 
-ghost use Rattle.std.specs.Prelude.{◌≡◌, ◌≤◌, ◌∷◌, [], IfOk, true};
-ghost use Rattle.audit.specs.Common.{IsFinderFor};
+ghost use Rattle.std.specs.Prelude.{◌≡◌, ◌≤◌, ◌∷◌, [], IfOk, pos, true};
+ghost use Rattle.audit.specs.Common.{IsFinderFor, IsPiece, stretch_over};
 ghost use Rattle.audit.specs.ByCovers as spec;
 ghost use Rattle.audit.specs.ByCovers.{IsHeldOver, at_by_covers, hulls_finding, is_of};
 ghost use Rattle.audit.specs.Evidence.{IsLawfulEvidence, evidence_data};
@@ -14,6 +14,7 @@ use crate::whole_text::publish_text;
 use audit_text::parts_text;
 use byte_stream::Sink;
 use cover_finder::HullFinder;
+use cover_finder::laws::{ends_are_nearly_attained, hulls_by_covers_hold_the_error};
 use intersection::kinds::Hull;
 use line_writer::Style;
 use report::{Outcome, RunFault};
@@ -39,6 +40,18 @@ pub struct HullOver {
     pub(crate) hull: Hull,
 }
 
+/// The stretch of these ticks.
+fn ticks(begin: u64, end: u64) -> Stretch
+    requires in_order { begin ≤ end }
+    ensures value { result ≡ stretch_over (pos begin) (pos end) }
+    ensures piece { IsPiece result.begin result.end }
+{
+    Stretch {
+        begin: i128::from(begin),
+        end: i128::from(end),
+    }
+}
+
 /// What finds the hulls of evidence.
 pub(crate) fn finder_for(alloc: Global, evidence: &Evidence) -> Result<HullFinder, AllocError>
     requires evidence { IsLawfulEvidence evidence.now }
@@ -58,12 +71,11 @@ pub(crate) fn hull_over(finder: &HullFinder, evidence: &Evidence, begin: u64, en
     ensures end { result.end ≡ end }
     ensures held { IsHeldOver (evidence_data evidence.now) result }
 {
+    hulls_by_covers_hold_the_error();
+    ends_are_nearly_attained();
     errors_tell_true_time();
-    let stretch = Stretch {
-        begin: i128::from(begin),
-        end: i128::from(end),
-    };
-    let hull = finder.hull(&evidence.held.exchanges, &evidence.claim, stretch);
+    let stretch = ticks(begin, end);
+    let hull = finder.hull(&evidence.claim, stretch);
     HullOver { begin, end, hull }
 }
 

@@ -1,9 +1,18 @@
-use Rattle.std.proofs.Common.{length, map, sym}
-use Rattle.lemma_base.proofs.List.{All-slice_get}
-use Rattle.pairing.specs.Exchange.{IsLawful}
+use Rattle.std.proofs.Common.{length, map}
+use Rattle.std.proofs.lemmas.List.Sorted.{All-permutation}
+use Rattle.cover_finder.specs.Common.{IsWithinRange, claim_data}
+use Rattle.cover_finder.specs.Table.{mark_of}
+use Rattle.cover_finder.specs.declared.peak.Numbered.{Numbered}
+use Rattle.cover_finder.proofs.Tables.{marks_permuted}
 use Rattle.cover_finder.proofs.table.marks_of.Goals as goal
 
-pub mark_of-mark-requires : goal.mark_of-mark-requires
-mark_of-mark-requires g c =
-    All-slice_get (IsLawful (length c.args.claim.now.servers.items)) (map g.X.ToExchange.shown c.args.exchanges.now)
-    c.loop-number.number c.in-Some.x c.requires.exchanges (sym c.in-Some.ensures)
+pub returns-clause-are : goal.returns-clause-are
+returns-clause-are g c =
+    let xs = map g.X.ToExchange.shown c.args.exchanges.now in
+    marks_permuted (mark_of c.args.is_high (claim_data c.args.claim.now).reading) xs c.args.server (length xs)
+    c.in_ok-marks.marks.items c.in_ok-marks.ensures.are c.sorted.result.items c.sorted.ensures.permutation
+
+pub returns-clause-range : goal.returns-clause-range
+returns-clause-range g c =
+    All-permutation (λ (one : Numbered). IsWithinRange one.mark) c.in_ok-marks.marks.items c.sorted.result.items
+    c.sorted.ensures.permutation c.in_ok-marks.ensures.range

@@ -1,7 +1,8 @@
 use Rattle.std.proofs.lemmas.List.{take_all}
 use Rattle.std.proofs.lemmas.List.Elements.{All-push}
-use Rattle.audit.proofs.Common.{evidence_data}
+use Rattle.audit.proofs.Common.{◌∙◌, ap, evidence_data}
 use Rattle.audit.specs.ByCovers.{IsHeldOver}
+use Rattle.reading_time.specs.declared.reading.Reading.{Reading}
 use Rattle.audit.proofs.CoversShowing.{read_one_more}
 use Rattle.audit.proofs.question.readings_by_covers.found_over.Goals as goal
 
@@ -12,7 +13,8 @@ loop-reading-preserved c =
     let one = c.hull_over.result in
     rw c.in_ok-push.ensures.items (
       read_one_more c.args.readings.now c.loop-reading.reading-index _ found one c.loop-reading-test.true before.0
-          c.hull_over.ensures.begin c.hull_over.ensures.end,
+          (c.hull_over.ensures.begin ∙ ap (λ (r : Reading). r.begin) c.reading-item.is)
+          (c.hull_over.ensures.end ∙ ap (λ (r : Reading). r.end) c.reading-item.is),
       All-push (IsHeldOver (evidence_data c.args.evidence.now)) found one before.1 c.hull_over.ensures.held,
     )
 
