@@ -1,10 +1,10 @@
 -- The highest marks on a way through the places.
 --
 -- From a mark's place on its error is lowered by `drift` for each `rate` of the way, and rounded
--- down to a tick. So of two marks the one is moved to no lower an end than the other, wherever both
--- are moved to, if `rate` times its error and `drift` times its place are as much. That is a mark's
--- height. Of the marks up to a place the highest is the last of those that stand higher than all
--- before them.
+-- down to a tick. So `rate` times its error and `drift` times its place, together its height,
+-- decide which of several marks is moved to the highest end, wherever they are moved to. A peak is
+-- a mark that stands higher than all before it. The last peak up to a place is the highest of all
+-- marks up to there.
 use Rattle.std.specs.Prelude.{◌≡◌, ℕ, ◌<◌, ◌≤◌, ◌≢◌, ℤ, pos, ◌+ℤ◌, ◌-ℤ◌, ◌*ℤ◌, ◌≤ℤ◌, ◌<ℤ◌, List, Option, Some, MatchOption, slice_get}
 use Rattle.std.specs.Int.{int_div_euclid}
 use Rattle.cover_finder.specs.Common.{Mark}
