@@ -3,7 +3,7 @@
 -- what was found.
 use Rattle.std.specs.Prelude.{◌≡◌, ◌==◌, ◌<◌, ◌&&◌, ℕ, ◌++◌, [], ◌∷◌, Bool, true, false, List, All, Option, None, Some, if◌then◌else◌, length, pos, slice_get}
 use Rattle.audit.specs.Check.{GiveSecond}
-use Rattle.audit.specs.Common.{Course, FeedState, Fits, HoldsErrorByCovers, Hull, IsHullByCovers, IsNearlyAttained, IsObservedIn, IsThen, Memory, ReadingData, Report, Style, Unbounded, Yes, parts_text, reading_heading, reading_line, reading_over, refused, rows_from, stretch_over, times_read, true_text, whole_text}
+use Rattle.audit.specs.Common.{Course, Fits, HoldsErrorByCovers, Hull, IsHullByCovers, IsNearlyAttained, IsObservedIn, IsThen, Memory, ReadingData, Report, Style, Unbounded, Yes, parts_text, reading_heading, reading_line, reading_over, refused, rows_from, stretch_over, times_read, true_text, whole_text}
 use Rattle.audit.specs.Evidence.{EvidenceData, GiveEvidence, OfClaimAndCapture}
 use Rattle.audit.specs.Question.{Finding, QuestionData, no_finding}
 use Rattle.audit.specs.Reading.{ticks_asked}

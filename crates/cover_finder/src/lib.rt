@@ -5,6 +5,7 @@
 //! accepts what it makes, that is the answer. Where the pieces of a case stop, some course is
 //! beyond the bound, but for rounding: there it looks for a refutation, with the cover's groups
 //! false (refuted.rt). [`settle`] asks for it where a claim stays open without covers.
+//! [`HullFinder`] finds hulls, of which [`laws`] say what they hold and how near their ends are.
 //!
 //! The marks of each server are laid out in a table once (table.rt), which says by a few searches
 //! what the server says over any piece. A low mark's moved end is the lesser of what it has fallen

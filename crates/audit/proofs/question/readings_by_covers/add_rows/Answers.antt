@@ -1,6 +1,6 @@
 use Rattle.audit.proofs.Common.{◌∙◌, ◌++◌, ap}
-use Rattle.audit.specs.ByCovers.{hull_row, hull_there}
-use Rattle.audit.specs.Common.{Hull, ReadingData, reading_data, reading_line}
+use Rattle.audit.specs.ByCovers.{hull_row}
+use Rattle.audit.specs.Common.{Hull, reading_data, reading_line}
 use Rattle.audit_text.proofs.Rows.{row_added, rows_done}
 use Rattle.reading_time.specs.declared.reading.Reading.{Reading}
 use Rattle.audit.proofs.question.readings_by_covers.add_rows.Goals as goal
