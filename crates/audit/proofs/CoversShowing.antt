@@ -43,8 +43,8 @@ read_one_more readings k d found one within before begin end =
     (one_more (map reading_data (take k readings)) found r one before own)
 
 -- each reading has a hull among those that were found
-pub are_held_at : (e : EvidenceData) (readings : List ReadingData) (found : List HullOver) → are_of readings found ≡ true
-    → All (IsHeldOver e) found → AreHeldAt readings e
+pub are_held_at : (e : EvidenceData) (readings : List ReadingData) (found : List HullOver)
+    → are_of readings found ≡ true → All (IsHeldOver e) found → AreHeldAt readings e
 are_held_at e [] found same held = All-nil (λ it. IsHeldAt it e)
 are_held_at e (r ∷ readings) [] same held = absurd cc
 are_held_at e (r ∷ readings) (f ∷ found) same held =

@@ -65,7 +65,8 @@ module _ (claim : ClaimData) (xs : List Exchange) (stretch : Stretch) where
         record {
           out = case.0;
           without = by.hull_of.each number case.0 one case.1 stands;
-          cover = All-slice_get (λ cover. IsCover claim xs (holds cover)) by.of.covers number case.0 by.of.are.are is_cover;
+          cover = All-slice_get (λ cover. IsCover claim xs (holds cover)) by.of.covers number case.0
+              by.of.are.are is_cover;
           small = All-slice_get (λ cover. size_of claim (holds cover) ≤ claim.false_max) by.of.covers number case.0
               by.of.are.few is_cover;
         }

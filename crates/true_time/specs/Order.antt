@@ -71,9 +71,9 @@ open_by earlier later (FirstBefore ticks) = FirstBefore ticks
 open_by earlier later (SecondBefore ticks) = SecondBefore ticks
 open_by earlier later Never = Never
 
--- The order of two readings of one clock, of which an order is known, if one begins at a tick before
--- the last one of the other: where they share no more than what is between these two ticks, one
--- ends there and the other begins; else it is an open one.
+-- The order of two readings of one clock, of which an order is known, if each begins before the
+-- other ends, by their ticks: where these are one tick too many, one reading ends where the other
+-- begins; else the order is an open one.
 abbrev pub order_of_touching : ℕ → ReadingData → ReadingData → Order → Order
 order_of_touching ppb r r' order =
     if r.end == r'.begin + 1 then first_by 0 order

@@ -3,9 +3,9 @@
 //!
 //! [`readings_text`] gives the text for many readings: the samples are laid out in tables once, and
 //! a hull is a search in them. The hulls are found in the order of the readings' ticks, and written
-//! in the readings' own; with hulls that a caller has, [`add_reading`] makes the lines. [`laws`] say
-//! that true time lies between the two. For one reading
-//! [`parts_at`] gives what each server says, and [`add_true_time`] adds the two to a text.
+//! in the readings' own. With hulls that a caller has, [`add_reading`] makes the lines. [`laws`]
+//! say that true time lies between the two. For one reading [`parts_at`] gives what each server
+//! says, and [`add_true_time`] adds the two to a text.
 //!
 //! The line of a reading, as `add_readings` of `true_time/src/reading_line.rt` makes it, with its
 //! proof:

@@ -43,7 +43,7 @@ pub(crate) fn row_style(style: Style) -> Style
 pub fn empty_text(alloc: Global, readings: &[Reading]) -> Result<Vec<u8>, AllocError>
     ensures { IfOk result (λ text. text.items ≡ []) }
 {
-    Vec::with_capacity(alloc, readings.len().saturating_mul(LINE))
+    Ok(Vec::with_capacity(alloc, readings.len().saturating_mul(LINE))?)
 }
 
 /// Adds the headings of lines of readings, for a person.
