@@ -29,6 +29,6 @@ mod when;
 pub use hull::parts_at;
 pub use order::{Order, order_of, order_of_one};
 pub use order_line::order_text;
-pub use reading_line::{add_heading, add_reading, empty_text, readings_text};
+pub use reading_line::{add_heading, add_reading, readings_text};
 pub use true_text::add_true_time;
 pub use when::{When, when_at};

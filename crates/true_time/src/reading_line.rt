@@ -1,6 +1,6 @@
 //! The text of many readings.
 
-ghost use Rattle.std.specs.Prelude.{◌≡◌, ◌+◌, ◌≤◌, ◌++◌, [], ◌^◌, ◌-ℤ◌, pos, true, unsigned_abs, IfOk, IsTrue, All, length, map};
+ghost use Rattle.std.specs.Prelude.{◌≡◌, ◌+◌, ◌≤◌, ◌++◌, ◌^◌, ◌-ℤ◌, pos, true, unsigned_abs, IfOk, IsTrue, All, length, map};
 ghost use Rattle.line_writer.specs.declared.line.TheConstants.{CAPACITY};
 ghost use Rattle.line_writer.specs.Field.{room_of};
 ghost use Rattle.audit_text.specs.Table.{rows_from};
@@ -22,9 +22,6 @@ use sweep::{BestTable, Places};
 
 const BLANKS: &str = "                              ";
 
-/// Bytes of a line.
-const LINE: usize = 112;
-
 const HEADING: &str = "                       reading   low error ms  high error ms             \
 earliest true time               latest true time\n";
 
@@ -37,13 +34,6 @@ pub(crate) fn row_style(style: Style) -> Style
     } else {
         Style::Columns
     }
-}
-
-/// An empty text with room for the lines of readings, of the length that these mostly have.
-pub fn empty_text(alloc: Global, readings: &[Reading]) -> Result<Vec<u8>, AllocError>
-    ensures { IfOk result (λ text. text.items ≡ []) }
-{
-    Ok(Vec::with_capacity(alloc, readings.len().saturating_mul(LINE))?)
 }
 
 /// Adds the headings of lines of readings, for a person.
@@ -255,7 +245,7 @@ pub fn readings_text<S: SampleSource>(
 {
     let tables = tables_for(alloc, samples, claim)?;
     let hulls = hulls_of(alloc, tables.as_slice(), claim, readings)?;
-    let mut text = empty_text(alloc, readings)?;
+    let mut text = Vec::new(alloc);
     add_heading(&mut text, style)?;
     add_readings(
         &mut text,

@@ -16,7 +16,7 @@ use line_writer::Style;
 use reading_time::{Reading, Times};
 use report::{Outcome, RunFault};
 use std::alloc::{AllocError, Global};
-use true_time::{add_heading, add_reading, empty_text};
+use true_time::{add_heading, add_reading};
 
 /// How far off may the clock have been while it showed the readings of the second input, by covers,
 /// and when was that?
@@ -79,7 +79,7 @@ fn hulls_text(
     ensures { IfOk result (λ text. text.items ≡
         spec.hulls_text style (map reading_data readings.now) found.now) }
 {
-    let mut text = empty_text(alloc, readings)?;
+    let mut text = Vec::new(alloc);
     add_heading(&mut text, style)?;
     add_rows(&mut text, style, readings, found)?;
     Ok(text)
