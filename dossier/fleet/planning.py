@@ -2,8 +2,7 @@
 rest, and all days beside these.
 """
 import os
-import stat
-from collections.abc import Callable, Iterable, Iterator
+from collections.abc import Callable, Iterator
 from contextlib import suppress
 from typing import NamedTuple, TypeVar
 
@@ -11,14 +10,14 @@ from ..fault import Fault, fault
 from ..folder import files
 from ..folder.entry import Refusal
 from ..folder.files import Folder, absolute, asked
-from ..folder.jobs import run_all, run_one
+from ..folder.jobs import run_all
 from ..folder.result import Below
 from ..folder.year import read_statements
-from ..text import listed, plain
-from .days import is_day, namesakes
+from ..text import listed
 from .events import folders_of
+from .machines import Machines, above_all, folders_above, folders_in, is_day, names_of, once, others_in
 from .signature import signed_in
-from .statements import DAYS, NOTHING, days_of, folders_above, has_days
+from .statements import DAYS, NOTHING, days_of
 
 RESTING, OWN, LOOSE, BARE = "resting", "own", "loose", "bare"
 """What a folder is. `resting`: a year or an answer to a log, which rests on days. `own`: an audit; or a part of any of
@@ -37,25 +36,6 @@ def kind_of(folder: Folder) -> str:
     if any(name in OF_ITS_OWN or files.is_capture(name) or name.endswith(DAYS) for name in folder.names()):
         return OWN
     return LOOSE if any(map(folder.has, (files.CLAIM, files.LIST, files.ANSWERED))) else BARE
-
-
-class Machines(NamedTuple):
-    """The folders of machines whose days are looked at, what these are called, and the folders in which they are; the
-    folders of all machines in those that are named that have days of the same years, and what several of these are
-    called; the folders of machines on whose days a year or an answer rests; and these years, if they are known."""
-
-    folders: frozenset[str] = frozenset()
-    names: frozenset[str] = frozenset()
-    places: frozenset[str] = frozenset()
-    every: frozenset[str] = frozenset()
-    alike: frozenset[str] = frozenset()
-    resting: frozenset[str] = frozenset()
-    years: frozenset[str] = frozenset()
-
-    def among(self, found: dict[str, str]) -> "Machines":
-        """These among all that were found, each with a day of these years, if it has one."""
-        every = self.every.union(path for path, day in found.items() if day)
-        return self._replace(every=every, names=self.names | names_of(found), alike=namesakes(every))
 
 
 class Plan(NamedTuple):
@@ -175,7 +155,8 @@ class Planning:
         days = [path for path in every if path in self.stated or is_day(os.path.basename(path))]
         resting = {path: absolute(path) for path in every if absolute(path) in self.rests}
         years = [year for year, _ in self.spans]
-        of_years = {*years, *(year_in(path) for path in {*days, *resting} - self.stated.keys())}
+        beside = names_of({*days, *resting} - self.stated.keys())
+        of_years = {*years, *(name[:4] if is_day(name) else "" for name in beside)}
         own = above_all(days + others)
         machines = Machines(own, names_of(own), above_all(own), above_all(days),
                             resting=above_all(resting.keys() & days),
@@ -184,30 +165,6 @@ class Planning:
                     if not asked(day, lambda folder: folder.has(files.SIGNATURE), False)}
         leaning = {path for path, day in resting.items() if day not in self.named or day in unsigned}
         return Plan(every, self.stated, holds, leaning, machines, len(others), years, bool(self.answers), self.refused)
-
-
-def above_all(paths: Iterable[str]) -> frozenset[str]:
-    """The folders in which some are: of days those of their machines."""
-    return frozenset(os.path.dirname(absolute(path)) for path in paths)
-
-
-def names_of(paths: Iterable[str]) -> frozenset[str]:
-    """The last names of folders."""
-    return frozenset(os.path.basename(path) for path in paths)
-
-
-def year_in(day: str) -> str:
-    """The year after which a day is called; nothing if it is called otherwise."""
-    name = os.path.basename(day)
-    return name[:4] if is_day(name) else ""
-
-
-def once(paths: list[str]) -> list[str]:
-    """Paths of folders, of each the first spelling."""
-    first = dict[str, str]()
-    for path in paths:
-        first.setdefault(absolute(path), path)
-    return list(first.values())
 
 
 def those_among(paths: list[str], is_one: Callable[[Folder], bool], seconds: int, or_unknown: bool = True) -> set[str]:
@@ -238,62 +195,6 @@ def days_beside(path: str, machines: list[str], rests: set[str]) -> list[str]:
             days.append(place)
         is_few(days)
     return days
-
-
-def machines_below(folders: list[str], machines: Machines, seconds: int) -> tuple[dict[str, str], dict[str, Refusal]]:
-    """The folders of machines in those that are named, or in a folder in these, each with a day that has an audit of
-    the same years, if it has one; and why they can't be found in some. (What is called like a machine and has no days
-    may be of whoever signs; and what is within a machine on which something rests is no machine, but that one's.)"""
-    def work(path: str, _: int) -> dict[str, str]:
-        above, days = [path] if path else folders, dict[str, str]()
-        for place in {place for folder in above for place in (folder, *others_among(folder, machines))}:
-            for other in others_among(place, machines):
-                day = audited_in(other, machines)
-                days |= {absolute(other): day} if day or has_days(other) else {}
-        return days
-    found, refused = dict[str, str](), dict[str, Refusal]()
-    result = run_one("", work, dict[str, str], seconds)
-    every = run_all(folders, work, dict[str, str], seconds) if isinstance(result, Refusal) else [("", result)]
-    for path, came in every:  # (one by one if they are too many together)
-        if isinstance(came, Refusal):
-            refused[path] = came
-        else:
-            found.update(came)
-    return found, refused
-
-
-def others_among(place: str, machines: Machines) -> list[str]:
-    """The folders in one that may be machines, or may hold some; a fault if nobody can look into it."""
-    is_folder = files.kind_of(files.HOME, place) == files.KINDS[stat.S_IFDIR]
-    if not is_folder or not machines.resting.isdisjoint(folders_above(place)):
-        return []
-    try:
-        return folders_in(place, are_days=False)
-    except Fault as error:
-        raise error.of(plain(place)) from None
-
-
-def audited_in(path: str, machines: Machines) -> str:
-    """A day in a folder that has an audit, or the like, and is of the same years as machines; the folder itself if
-    nobody can look into it, and nothing if it has none."""
-    def day_in(folder: Folder) -> str:
-        days = (name for name in folder.names() if is_day(name) and (not machines.years or name[:4] in machines.years))
-        return next((day for day in days if any(folder.has(f"{day}/{file}") for file in files.SIGNATURES)), "")
-    return asked(path, day_in, path)
-
-
-def others_in(place: str) -> list[str]:
-    """The folders in one that aren't called after a day; none if it can't be looked into."""
-    with suppress(Fault):
-        return folders_in(place, are_days=False)
-    return []
-
-
-def folders_in(place: str, are_days: bool) -> list[str]:
-    """The folders in one that are called after a day, or those that aren't."""
-    with Folder(place) as folder:
-        return [os.path.join(place, name) for name in folder.names()
-                if is_day(name) == are_days and folder.is_folder(name)]
 
 
 def is_few(days: list[str]) -> None:

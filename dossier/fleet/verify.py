@@ -28,11 +28,10 @@ from .audit import change_of, counted_once
 from .drawing import Sample, likelihoods, sample_of
 from .events import OWN, EventsCall, PageOfEvents, compared as answer_compared, folders_of, renamed_in
 from .judging import ONLY_MADE, Judging, Unjudgeable
-from .days import NAMESAKES
-from .planning import BARE, LOOSE, Planning, kind_of, machines_below, names_of, once, those_among
+from .machines import NAMESAKES, folders_above, machines_below, names_of, once
+from .planning import BARE, LOOSE, Planning, kind_of, those_among
 from .signature import GOOD, NONE, UNFIT, UNSEEN, Signers, called_by, in_words, signed_in
-from .statements import (Compared as YearCompared, compared as year_compared, days_of, folders_above,
-                         unanswered_in)
+from .statements import Compared as YearCompared, compared as year_compared, days_of, unanswered_in
 from .twins import SeenFolders
 
 SHOWN, MAX_OF_A_DISPUTE = 80, 1000
