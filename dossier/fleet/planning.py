@@ -64,8 +64,10 @@ class Plan(NamedTuple):
 
 
 class Planning:
-    """A plan that is being made. What comes before a folder are the days that are in it or that it rests on; what is
-    within one are the machines of a year's days. What rests, or is named or answered, are absolute paths."""
+    """A plan that is being made, of what is found in the folders that are named: `stated` are the days of years, each
+    with its name for good, `answered` those of answers, and `rests` has both, and days that a year names without an
+    audit; `before` has the days that come before a folder, and `within` the machines of a year's days in one. What is
+    named, answered, rests or is `within` is known by absolute paths."""
 
     def __init__(self, folders: list[str], named: set[str], seconds: int):
         self.folders, self.named, self.seconds = folders, named, seconds
@@ -128,7 +130,8 @@ class Planning:
         return said
 
     def look_beside(self) -> list[str]:
-        """Has all days that stand beside a year's come before the folder in which they are. Those of another time."""
+        """Puts the days that stand beside a year's before the folder in which they are, and gives those of another
+        time, which aren't looked at. (From a year days of a bare folder may have been left out.)"""
         within = dict.fromkeys(map(absolute, self.bare if self.spans else ()), list[str]()) | self.within
         seen, others = self.named | self.rests, list[str]()
 
@@ -136,7 +139,7 @@ class Planning:
             return days_beside(path, within[absolute(path)], self.rests)
         folders = [folder for folder in self.folders if absolute(folder) in within]
         for folder, found in self.taken(run_all(folders, work, list[str], self.seconds)):
-            for day in (day for day in found if absolute(day) not in seen):  # (or may have been left out of a year)
+            for day in (day for day in found if absolute(day) not in seen):
                 (self.before.setdefault(folder, []) if self.is_of_years(day) else others).append(day)
             seen.update(map(absolute, found))
         return others
@@ -148,12 +151,14 @@ class Planning:
         return not is_day(name) or any(name[:4] == year and name < made for year, made in self.spans)
 
     def plan(self) -> Plan:
+        """The plan. Of a day that is named, though an answer rests on it, the signature has to be good, if it has one.
+        """
         holds, others = self.holding(), self.look_beside()
         every = once([self.spelled.get(absolute(path), path) for folder in self.folders
                       for path in (*self.before.get(folder, ()), folder) if path not in self.answers])
         every += self.answers
         days = [path for path in every if path in self.stated or is_day(os.path.basename(path))]
-        resting = {path: absolute(path) for path in every if absolute(path) in self.rests}
+        resting = {path: day for path in every if (day := absolute(path)) in self.rests}
         years = [year for year, _ in self.spans]
         beside = names_of({*days, *resting} - self.stated.keys())
         of_years = {*years, *(name[:4] if is_day(name) else "" for name in beside)}
