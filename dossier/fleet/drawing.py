@@ -30,9 +30,9 @@ def sample_of(plan: Plan, named: set[str], number: int, seed: str, seconds: int)
     numbers = Counter(names.values())
     several = those_among([*names], is_of_several, seconds) | {path for path in names if numbers[names[path]] > 1}
     alone = {path: name for path, name in names.items() if path not in several}
-    drawn, others = drawn_of(alone, number, seed), (path for path in plan.every if path not in plan.stated)
-    beside = {path for path in others if path not in plan.resting and absolute(path) not in named}
-    beside = beside if plan.stated else set()
+    drawn = drawn_of(alone, number, seed)
+    beside = {path for path in plan.every if plan.stated and path not in plan.stated and path not in plan.resting
+              and absolute(path) not in named}
     return Sample(drawn, len(alone), several, beside, set(alone) - drawn | beside)
 
 

@@ -4,13 +4,13 @@ rest, and all days beside these.
 import os
 from collections.abc import Callable, Iterator
 from contextlib import suppress
-from typing import NamedTuple, TypeVar
+from typing import NamedTuple
 
 from ..fault import Fault, fault
 from ..folder import files
 from ..folder.entry import Refusal
 from ..folder.files import Folder, absolute, asked
-from ..folder.jobs import run_all
+from ..folder.jobs import T, run_all
 from ..folder.result import Below
 from ..folder.year import read_statements
 from ..text import listed
@@ -24,7 +24,6 @@ RESTING, OWN, LOOSE, BARE = "resting", "own", "loose", "bare"
 these is there, or a capture, so that what was signed may have been taken away. `loose`: a claim, pages or a log's
 answer, which may lie among machines. `bare`: nothing but what may be folders of days."""
 OF_ITS_OWN = {*files.SIGNATURES, *files.SIGNATURES.values(), *files.LEFT}
-T = TypeVar("T")
 MAX_DAYS_AT_ONCE, AT_ONCE = 1_000_000, 1_000
 """Days that are verified at once, and those of which a process reads audit.json."""
 

@@ -298,8 +298,6 @@ class Tally:
 
 
 AS_SIGNED, BEFORE = "{} is as it was signed", "that was here before"
-
-
 RESTS = {files.YEAR: ("its statements follow from", "its days"),
          files.EVENTS: ("its times follow from the log and from", "its machines' folders")}
 OWN_DAYS = "a machine's key signs its own days alone"
