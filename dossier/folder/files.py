@@ -8,9 +8,10 @@ import os
 import re
 import stat
 from collections.abc import Callable, Iterator
-from contextlib import contextmanager
+from contextlib import contextmanager, suppress
 from io import BufferedReader
 from itertools import islice
+from typing import TypeVar
 
 from ..fault import DEVICE, Fault, fault
 
@@ -273,6 +274,16 @@ class Folder:
                 read_once(parent, file, name, take, limit_of(name))
         except OSError as error:
             raise unreadable(name, error) from None
+
+
+T = TypeVar("T")
+
+
+def asked(path: str, question: Callable[[Folder], T], unknown: T) -> T:
+    """What a question comes to of a folder; else what is taken for that where nobody can look."""
+    with suppress(Fault), Folder(path) as folder:
+        return question(folder)
+    return unknown
 
 
 def read_named(path: str, take: Callable[[bytes], object], most: int) -> None:
