@@ -108,7 +108,7 @@ def take_inputs(folder: Folder, record: Record | None, believed: dict[str, str] 
         copy = CLAIM if name == CLAIM else f"{len(taken.copies)}.pcap" if is_capture(name) else ""
         if file != name:
             packed[name] = f"{copy}.zst"
-            copy_of(folder, file, packed[name])
+            copy_unsummed(folder, file, packed[name])
         elif name in believed:
             copy_unsummed(folder, file, copy)
         else:
