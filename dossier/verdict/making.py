@@ -124,9 +124,14 @@ def take_inputs(folder: Folder, record: Record | None, believed: dict[str, str] 
     return taken
 
 
+def joined_of(taken: Inputs, claim: Claim, program: Program) -> AuditedCapture:
+    """One capture of all that were recorded."""
+    return thinned(audited(taken.copies, program), claim, program)
+
+
 def whole_of(taken: Inputs, claim: Claim, program: Program) -> AuditedCapture:
     """The capture that is audited: all that were recorded, each packet once."""
-    return once(thinned(audited(taken.copies, program), claim, program), program)
+    return once(joined_of(taken, claim, program), program)
 
 
 def make(taken: Inputs, options: Options, leaps: LeapList, backed: Backing, program: Program,
