@@ -53,7 +53,7 @@ MAX_OF_A_CAPTURE, MAX_NAMES = 1 << 32, 100_000
 KINDS = {stat.S_IFIFO: "a FIFO", stat.S_IFLNK: "a link", stat.S_IFDIR: "a folder", stat.S_IFSOCK: "a socket",
          stat.S_IFCHR: "a device", stat.S_IFBLK: "a block device"}
 FILE = "a file"
-BLOCK = 1 << 20
+BLOCK = 1 << 18
 """Bytes of a file that are read at once."""
 OF_A_FOLDER = os.O_RDONLY | os.O_DIRECTORY | os.O_NOFOLLOW | os.O_CLOEXEC
 OF_A_FILE = os.O_RDONLY | os.O_NONBLOCK | os.O_NOCTTY | os.O_CLOEXEC
