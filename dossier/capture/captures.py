@@ -8,8 +8,8 @@ import zlib
 from array import array
 from bisect import bisect_left, bisect_right
 from collections import deque
-from collections.abc import Callable, Iterator
-from contextlib import suppress
+from collections.abc import Callable, Generator, Iterator
+from contextlib import closing, suppress
 from functools import partial
 from hashlib import sha256
 from itertools import chain, islice, pairwise
@@ -21,7 +21,7 @@ from ..folder.claim import Claim, Part
 from ..folder.entry import Alert, Figure, Torn
 from ..folder.files import BLOCK, JOINED, MAX_OF_A_CAPTURE, mapped, own, size_of, sum_of_file, too_big
 from ..folder.jobs import find_tool, stream
-from ..folder.placing import ROOM, Copy, cut_off, keep, move
+from ..folder.placing import ROOM, Copy, cut_off, move
 from ..folder.program import Program
 from ..units import DAY, SECOND, ceil_div, day_of
 from . import classic, pcapng
@@ -260,20 +260,25 @@ def are_unpacked_at_once(copies: dict[str, str]) -> bool:
     sizes = [size_said(copy) for copy in copies]
     if not sizes or 0 in sizes or max(sizes) > MAX_AT_ONCE or sum(sizes) > MAX_OF_A_CAPTURE:
         return False
-    left, rest = bytearray(), list(zip(copies.values(), sizes))
-
-    def take(block: bytes) -> None:
-        left.extend(block)
-        while rest and len(left) >= rest[0][1]:
-            path, size = rest.pop(0)
-            keep(path, bytes(left[:size]))
-            del left[:size]
-        if len(left) > max(sizes):
-            raise fault("packed files hold more than they say")
-    with suppress(Fault):
-        status, _ = stream([find_tool("zstd", NO_ZSTD), "-dcq", "--", *copies], take)
-        return not status and not left and not rest
+    with suppress(Fault), closing(parted(dict(zip(copies.values(), sizes)))) as parts:
+        next(parts)
+        status, _ = stream([find_tool("zstd", NO_ZSTD), "-dcq", "--", *copies], parts.send)
+        return not status and not parts.send(b"")
     return False
+
+
+def parted(sizes: dict[str, int]) -> Generator[int, bytes, None]:
+    """Writes what is sent into files of these sizes, one after the other, and says how many aren't whole yet."""
+    block = yield len(sizes)
+    for number, (path, size) in enumerate(sizes.items()):
+        with Copy(path) as copy:
+            while copy.size < size:
+                part = block[: size - copy.size]
+                copy.take(part)
+                block = block[len(part):] or (yield len(sizes) - number - (copy.size == size))
+    while not block:
+        block = yield 0
+    raise fault("packed files hold more than they say")
 
 
 def size_said(copy: str) -> int:

@@ -26,11 +26,11 @@ HEADER, HEAD = 24, 16
 """Bytes of a capture's header, and of a record's."""
 MAX_RECORDS, MAX_CAPTURED = 4_000_000, 262_144
 """Records of a capture, and bytes of each, that the program takes."""
-MAX_ALIKE = 4096
+MAX_ALIKE = 1024
 """Records of one length that are read at once."""
 MAX_RUNS = 1 << 19
 """Of records that follow one another in time there are some for each day, however long a capture is."""
-AT_ONCE = 1 << 16
+AT_ONCE = 1 << 12
 """Records whose times are compared together."""
 MESSAGE, PORTS = 48, slice(HEAD + 34, HEAD + 42)
 """Bytes of an NTP message; and where the ports of its record stand, behind Ethernet, perhaps a tag, and IPv4."""

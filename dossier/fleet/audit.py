@@ -22,7 +22,7 @@ from ..text import label
 from ..verdict.alerts import warning_words
 from ..verdict.making import Making, sizes_of, sums_of_inputs
 from ..verdict.sentences import line_of, refusal_of
-from .days import is_day
+from .machines import is_day
 from .metrics import Sample, of_record, of_verdict, write_metrics
 from .signature import signed_in
 

@@ -3,38 +3,31 @@
 Each day's audit.json is looked at, and its claim, but no capture. A day is what its claim's span says, whatever its
 folder is called. It counts once, and only if it is of the claim that most of the machine's days have.
 """
-import json
 import os
 from collections import Counter
-from collections.abc import Collection, Iterable, Iterator
-from contextlib import suppress
+from collections.abc import Iterator
 from functools import cache
-from hashlib import sha256
-from zlib import compress, decompress
 from typing import NamedTuple
 
 from ..fault import Fault
 from ..folder.claim import Claim, parts_of
-from ..folder.entry import (DISPUTED, NOT_VERIFIED, REFUSED, WORST_FIRST, Entry, LeapList, Made, Record, Refusal,
-                            read_record)
+from ..folder.entry import DISPUTED, NOT_VERIFIED, REFUSED, WORST_FIRST, Entry, LeapList, Made, Record, read_record
 from ..folder.files import AUDIT, CLAIM, SIGNATURE, Folder, absolute, sum_of
-from ..folder.jobs import run_one
 from ..folder.registry import Known
 from ..folder.result import MISSING, MAX_FOLDERS, NOT_COUNTED, Told, Year
-from ..folder.table import Table
 from ..premise.leap import record_by
 from ..records import replace
-from ..schema import NOT_TAKEN, is_text, is_time, read_typed, said, typed
+from ..schema import NOT_TAKEN, read_typed
 from ..text import plain
 from ..units import DAY, day_of, seconds_of
 from ..verdict.sentences import reason
+from .machines import NAMESAKES, in_a_line, in_words, is_day
 from .signature import Signers, signed_in
 from .twins import few_of
 
 OTHER = "another claim or client than most days have"
 NO_DAY = "its name is no day, and it has no audit.json"
 UNKNOWN = f"{AUDIT} was neither made nor verified here, or is of another {CLAIM}"
-NAMESAKES = "more than one machine is called {}, so nobody knows whose key that is"
 REFUSED_BY = "it was refused by what {} signed"
 """Of a machine's own words none are on a page that somebody else signs."""
 ITS_OWN = f"{AUDIT}: it is of the folder of all days, and of none of them"
@@ -69,63 +62,6 @@ class YearCall(NamedTuple):
     def is_namesake(self, machine: str) -> bool:
         """Whether another machine is called like that of a folder."""
         return os.path.basename(absolute(machine)) in self.namesakes
-
-
-def key_of(words: str) -> int:
-    return int.from_bytes(sha256(words.encode()).digest()[:8], "big")
-
-
-def is_day(name: str) -> bool:
-    return is_time(f"{name}T00:00:00Z")
-
-
-def machines_of(folders: list[str], others: Collection[str] = ()) -> dict[str, list[str]]:
-    """The machines whose days, or folders of days, are named, each with the names of days; none if all are meant. A
-    day's folder is called after it, or is one of these others. A machine that is spelled in several ways is one, as it
-    is spelled first."""
-    machines, first = dict[str, list[str]](), dict[str, str]()
-    for folder in folders:
-        above, name = os.path.split(folder)
-        is_of_day = is_day(name) or folder in others
-        path = with_name(above if is_of_day else folder)
-        machines.setdefault(first.setdefault(absolute(path), path), []).extend([name] * is_of_day)
-    return machines
-
-
-def namesakes(machines: Iterable[str]) -> frozenset[str]:
-    """The last names that several machines have, by their folders."""
-    names = Counter(os.path.basename(machine) for machine in set(map(absolute, machines)))
-    return frozenset(name for name, number in names.items() if number > 1)
-
-
-def with_name(path: str) -> str:
-    """The path of a machine's folder, in one spelling that ends with its name."""
-    path = os.path.normpath(path)
-    return absolute(path) if os.path.basename(path) in (".", "..") else path
-
-
-def in_words(path: str) -> str:
-    """What a folder is called, in words that are another's for no other path."""
-    return plain(path.replace("\\", "\\x5c"))
-
-
-def in_a_line(path: str) -> str:
-    """A path as it stands in a line of a file of days: as it is, if it can."""
-    return path if "\n" not in path and is_text(path) else plain(path)
-
-
-def days_among(folders: list[str], seconds: int, is_alone: bool = False) -> list[str]:
-    """The folders that have an audit of their own, so that they are a day's and no machine's, whatever they are
-    called; if that has to be alone, only those in which no folder has one."""
-    def work(*_: object) -> list[str]:
-        paths = list[str]()
-        for path in folders:
-            with suppress(Fault), Folder(path) as folder:
-                is_machine = is_alone and any(folder.has(f"{name}/{AUDIT}") for name in folder.names())
-                paths += [path] * (folder.has(AUDIT) and not is_machine)
-        return paths
-    result = run_one("", work, list[str], seconds) if folders else []
-    return [] if isinstance(result, Refusal) else result
 
 
 def year_of(wanted: YearCall, machine: str, names: list[str]) -> Year:
@@ -185,47 +121,6 @@ def dates_of(year: int, at: int) -> list[str]:
 def missing_days(year: int, at: int) -> list[Told]:
     """The days of a machine that has no folder."""
     return [Told(date, MISSING) for date in dates_of(year, at)]
-
-
-class Twins:
-    """The machines that have a capture in common, or a day of the same client."""
-
-    def __init__(self) -> None:
-        self.machines, self.captures, self.days = list[str](), Table(), Table()
-        self.twins, self.alike = dict[int, set[int]](), dict[int, set[int]]()
-
-    def add(self, year: Year) -> None:
-        """Adds a machine's year, of which `of` then tells the twins."""
-        number = len(self.machines)
-        self.machines.append(year.machine)
-        for sum_ in year.captures:
-            meet(self.twins, number, self.captures.first(int(sum_[:16], 16), number))
-        for day in year.days:
-            if year.claim and day.name:
-                meet(self.alike, number, self.days.first(key_of(f"{year.claim.client} {day.date}"), number))
-
-    def of(self, number: int, year: Year) -> Year:
-        """A year, by its machine's number from 0, with the machines that have its recordings or its client's days."""
-        twins = self.twins.get(number, set())
-        alike = self.alike.get(number, set()) - twins
-        return replace(year, captures=[], twins=[self.machines[other] for other in sorted(twins)],
-                       alike=[self.machines[other] for other in sorted(alike)])
-
-
-def packed(year: Year) -> bytes:
-    """A year in few bytes: many are held until it is known which have recordings in common."""
-    return compress(json.dumps(said(replace(year, captures=[]))).encode(), 1)
-
-
-def unpacked(data: bytes) -> Year:
-    year: Year = typed(Year, json.loads(decompress(data)))
-    return year
-
-
-def meet(met: dict[int, set[int]], one: int, other: int) -> None:
-    if one != other:
-        met.setdefault(one, set()).add(other)
-        met.setdefault(other, set()).add(one)
 
 
 def same(claim: Claim) -> str:

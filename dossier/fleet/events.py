@@ -25,9 +25,11 @@ from ..schema import first_difference, read_typed, said
 from ..text import count, label, plain
 from ..units import SECOND, earliest, latest
 from ..verdict.moments import Moments
-from .days import NAMESAKES as NO_KEY, in_words, is_day, is_of_claim, namesakes
+from .days import is_of_claim
+from .machines import (NAMESAKES as NO_KEY, folders_above, in_words, is_day, is_within, misplaced, namesakes,
+                       renamed)
 from .signature import Signers, signed_in
-from .statements import folders_above, is_within, misplaced, premises_of, programs_named, renamed
+from .statements import premises_of, programs_named
 
 INDEX = "index.html"
 NO_MACHINE = "no folder of this machine"
@@ -313,11 +315,6 @@ PageOfEvents = Callable[[Answered, str], bytes]
 """Makes a page of an answer, as it was put together at a time."""
 
 # ---- verified
-
-
-def is_of_events(folder: Folder) -> bool:
-    """Whether a folder holds an answer to a log, and no audit or year."""
-    return signed_in(folder) == EVENTS
 
 
 def machine_at(folder: Folder, resting: Resting) -> Machine:

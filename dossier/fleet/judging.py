@@ -9,6 +9,7 @@ from typing import NamedTuple
 
 from ..capture.classic import Classic, do_rise
 from ..capture.recording import read_recording
+from ..capture.twice import once
 from ..fault import REFUSED, Fault
 from ..folder.answers import read_counts, read_settled
 from ..folder.claim import Claim
@@ -23,7 +24,7 @@ from ..premise.leap import alerts_of, entry_by, look_up, stretch
 from ..records import replace
 from ..schema import read_typed
 from ..units import SECOND
-from ..verdict.making import Inputs, take_inputs, whole_of
+from ..verdict.making import Inputs, joined_of, take_inputs
 from .audit import change_of
 
 ONLY_MADE = "envelopes were held to their sums, not made again; bounds, reasons, and warnings that take no yes away " \
@@ -94,16 +95,23 @@ class Judging:
         """The capture that was audited: the one input, or all of them joined. How far the stamps of what was recorded
         twice differ may take a yes away."""
         entry, = record.entries
-        whole = whole_of(taken, claim, self.program)
+        whole = self.recorded = joined_of(taken, claim, self.program)
+        if entry.answer != YES or claim != entry.claim or not whole.extent:  # (else `check` says if there may be any)
+            self.is_each_once()
         if (JOINED if whole.is_made else next(iter(taken.copies))) != record.capture:
             raise Unjudgeable
-        if any(alert.kind == "twice" or alert not in entry.warnings for alert in whole.alerts):
+        if any(alert not in entry.warnings for alert in whole.alerts):
             raise Unjudgeable
         if whole.is_made and entry.answer != YES and sum_of_file(JOINED) != entry.outputs.get(JOINED):
             raise Unjudgeable
         self.whole = Classic(whole.path, whole.extent)
         path: str = whole.path
         return path
+
+    def is_each_once(self) -> None:
+        """Sees that no packet was recorded twice."""
+        if once(self.recorded, self.program) is not self.recorded:
+            raise Unjudgeable
 
     def hold_against(self, entry: Entry, taken: Inputs) -> None:
         """Holds what speaks against a premise, and so the verdict, to the folder's own evidence and one's own list of
@@ -133,10 +141,12 @@ class Judging:
         if entry.answer == YES:
             held = {CLAIM: sums[CLAIM], capture: of_capture, CERTIFICATE: sums.get(CERTIFICATE, "")}
             text = self.held("check", CLAIM, capture, CERTIFICATE, sums=held)
+            counts = read_counts(next((line for line in text.decode().split("\n") if line.startswith("records ")), ""))
+            if counts.get("ambiguous", 1):
+                self.is_each_once()
             if not text.endswith(b"\nverdict yes\n"):
                 return f"{CERTIFICATE}: the program doesn't accept it"
-            counts = next(line for line in text.decode().split("\n") if line.startswith("records "))
-            if read_counts(counts) != entry.counts:
+            if counts != entry.counts:
                 return "the counts of audit.json aren't those of the capture"
             if own_data(CLAIM_OF_0) != replace(entry.claim, bound_ns=0).text:
                 return f"{CLAIM_OF_0} isn't the claim with the bound 0"
@@ -160,6 +170,7 @@ class Judging:
         except Fault as error:
             if error.status == REFUSED and error.line.endswith("sums differ capture") and words[2] == JOINED:
                 raise Unjudgeable from None
+            self.is_each_once()
             raise
 
     def is_refuted(self, entry: Entry, capture: str) -> bool:

@@ -8,10 +8,11 @@ from base64 import b64decode
 from collections.abc import Callable
 from contextlib import suppress
 from datetime import datetime
+from itertools import chain
 from typing import NamedTuple
 
 from ..fault import Fault, fault
-from ..folder.entry import Record
+from ..folder.entry import Record, Refusal
 from ..folder.events import Events, read_events
 from ..folder.files import AUDIT, EVENTS, SIGNATURE, SIGNATURES, YEAR, Folder, absolute, data_named, sum_of
 from ..folder.jobs import find_tool, run, run_all
@@ -31,8 +32,8 @@ USER = re.compile("[A-Za-z0-9._-]{1,32}")
 NO_KEYGEN = "ssh-keygen isn't installed, which makes signatures and looks at them"
 SIGNED, SIGNERS = "signed", "signers"
 """Private copies of what was signed, and of who may sign."""
-MAX_AT_ONCE = 8
-"""Signatures that are looked at side by side."""
+MAX_AT_ONCE, AT_A_PROCESS = 8, 16
+"""Processes that look at signatures side by side, and signatures at which one looks at most."""
 READERS: dict[str, Callable[[bytes], Record | Statements | Events]] = {
     AUDIT: read_any, YEAR: read_statements, EVENTS: read_events}
 """What reads each that is signed."""
@@ -89,16 +90,22 @@ class Signers:
     def look_at(self, paths: list[str], seconds: int) -> dict[str, str]:
         """Looks at the signatures of folders side by side, so that nobody has to look at those that are good again. Who
         signed which, and nobody those that don't fit, or can't be looked at."""
-        def work(path: str, _: int) -> list[str]:
+        def look(path: str, _: int) -> list[str]:
             with Folder(path) as folder:
                 found, signed = self.signature_of(folder), signed_in(folder)
                 if found.state != GOOD:
                     return [UNFIT] * (found.state == UNFIT)
                 return [sums_of(folder.data(signed), folder.data(SIGNATURES[signed])).hex(), found.signer, found.key]
         names, signers = dict[tuple[str, str], tuple[str, str]](), dict[str, str]()
-        jobs = max(1, min(MAX_AT_ONCE, len(os.sched_getaffinity(0)), len(paths)))
         is_needed = self.given is not None and len(paths) > 1
-        for path, came in run_all(paths if is_needed else [], work, list[str], seconds, jobs):
+        jobs = max(1, min(MAX_AT_ONCE, len(os.sched_getaffinity(0)), len(paths)))
+        most = max(1, min(AT_A_PROCESS, len(paths) // jobs))
+        chunks = [paths[at:at + most] for at in range(0, len(paths) * is_needed, most)]
+        several = run_all([chunk[0] for chunk in chunks], lambda _, k: [look(path, k) for path in chunks[k]],
+                          list[list[str]], seconds, jobs)
+        for path, came in chain.from_iterable(  # (one by one if they can't be looked at together)
+                run_all(chunk, look, list[str], seconds, jobs) if isinstance(some, Refusal) else zip(chunk, some)
+                for chunk, (_, some) in zip(chunks, several)):
             if isinstance(came, list) and came[1:]:
                 sums, *name = came
                 self.seen[bytes.fromhex(sums)] = names.setdefault((name[0], name[1]), (name[0], name[1]))

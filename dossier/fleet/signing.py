@@ -7,7 +7,7 @@ from typing import IO, NamedTuple
 from ..fault import DEVICE, NOT_SHOWN, USAGE, Fault, fault, summed
 from ..folder.entry import DISPUTED, LeapList, Refusal, read_record, record_text, refusal_by
 from ..folder.events import Asked
-from ..folder.files import AUDIT, SIGNATURE, SIGNATURES, Folder, own_data, sum_of
+from ..folder.files import AUDIT, EVENTS, SIGNATURE, SIGNATURES, Folder, own_data, sum_of
 from ..folder.jobs import DEVNULL, ENVIRONMENT, PIPE, SECONDS, begun, find_tool, private_folder, run_all, run_one
 from ..folder.placing import is_ones_own, keep, place
 from ..folder.program import find_program
@@ -20,7 +20,7 @@ from ..text import label, plain
 from ..units import now
 from ..verdict.making import sizes_of
 from .audit import change_of
-from .events import EventsCall, PageOfEvents, compared as answer_compared, folders_of, is_of_events
+from .events import EventsCall, PageOfEvents, compared as answer_compared, folders_of
 from .signature import NAMESPACE, NO_KEYGEN, READERS, Signers, signed_in
 from .statements import BY_ANOTHER, compared
 from .verify import known_in
@@ -89,7 +89,7 @@ def to_be_signed(call: SignCall, path: str, _: int) -> Written:
 def difference_of_days(call: SignCall, folder: Folder) -> str:
     """What of a year's statements, or of an answer to a log, doesn't follow from what is known here of its days;
     nothing if all does. Whoever signs names his own program."""
-    if not is_of_events(folder):
+    if signed_in(folder) != EVENTS:
         found = compared(folder, call.known, call.leaps, call.signers)
         return found.difference or next((note for note in found.notes if note.startswith(BY_ANOTHER)), "")
     folders_of(folder, {"/"})

@@ -2,10 +2,8 @@
 somebody can sign it."""
 import os
 import re
-from collections.abc import Collection, Iterable
-from contextlib import suppress
-from functools import cache
-from itertools import accumulate, dropwhile, groupby
+from collections.abc import Collection
+from itertools import accumulate, groupby
 from typing import NamedTuple
 
 from ..fault import Fault, fault
@@ -17,19 +15,17 @@ from ..folder.result import Told, Year
 from ..folder.year import Stated, Statements, read_statements
 from ..records import replace
 from ..schema import is_text
-from ..text import count, label, listed, plain, spelled
+from ..text import count, label, listed, plain
 from ..units import low_ms, ns_ms, ns_up_ms, seconds_of
-from .days import (NAMESAKES, NOBODY, UNKNOWN, VERIFIED, Twins, YearCall, in_words, is_day, missing_days, namesakes,
-                   packed, unpacked, year_of)
+from .days import NOBODY, UNKNOWN, VERIFIED, YearCall, missing_days, year_of
+from .machines import NAMESAKES, first_of, in_quotes, misplaced, namesakes, renamed
 from .signature import Signers
+from .twins import Twins, packed, unpacked
 
 RULES = {100_000: "MiFID II's RTS 25 of high-frequency trading, and CAT's 6.8 of exchanges",
          1_000_000: "MiFID II's RTS 25 of most venues and trading", 50_000_000: "FINRA 6820 and CAT's 6.8 of members",
          1_000_000_000: "MiFID II's RTS 25 of voice trading, and CAT's 6.8 of manual orders"}
 """Who asks for a bound of so many nanoseconds, by docs/BOUND.md."""
-
-IN_A_SENTENCE, OUT_OF_QUOTES = re.compile("[A-Za-z0-9_./@+-]+"), re.compile(r"[^\w./@+\\ -]")
-"""A name that stands in a sentence as it is; and what is spelled out of any other."""
 
 TWINS, ALIKE = "A recording of these days is that of", "days of the same client, on the same dates"
 NOTHING = "0" * 64
@@ -109,12 +105,6 @@ def figures_of(year: Year) -> list[str]:
     said += [f"No bound is known {on}."] if unknown else []
     return said + ([f"The largest error that is known was at least {low_ms(off.off)} ms, on {off.date}."]
                    if off and off.off else [])
-
-
-def in_quotes(machine: str) -> str:
-    """A machine's name in a sentence: in quotes if it could be more of the sentence, and then without other marks."""
-    within_quotes = OUT_OF_QUOTES.sub(lambda mark: spelled(mark[0]), machine)
-    return machine if IN_A_SENTENCE.fullmatch(machine) else f'"{within_quotes}"'
 
 
 def premises_of(claim: Claim) -> str:
@@ -212,70 +202,6 @@ def lines_in(folder: Folder, stated: Stated) -> list[Line]:
     return [line._replace(path=os.path.normpath(os.path.join(folder.path, line.path))) for line in lines]
 
 
-def folders_above(path: str) -> set[str]:
-    """The absolute paths of a folder and of those in which it is."""
-    whole = absolute(path)
-    return {"/", whole, *(whole[:k] for k, letter in enumerate(whole) if k and letter == "/")}
-
-
-def may_be(name: str, machine: str, place: str) -> bool:
-    """Whether a machine may have been called so where the year in some folder was made: the path of its folder ends so,
-    or this ends with all of the path that leads there from the year's."""
-    called, here = bare(os.path.normpath(name)), in_words(absolute(machine))
-    seen = bare(in_words(os.path.relpath(absolute(machine), absolute(place)))) or os.path.basename(here)
-    is_so = called == bare(name)
-    above = f"/{called}".removesuffix(f"/{seen}") if is_so else os.path.dirname(name)
-    return is_so and ends_so(name, machine) or \
-        f"/{called}".endswith(f"/{seen}") and above == plain(above)
-
-
-def ends_so(name: str, machine: str) -> bool:
-    """Whether the path of a machine's folder here ends as the one by which it was called."""
-    return in_words(absolute(machine)).endswith(f"/{bare(os.path.normpath(name))}")
-
-
-def is_within(path: str, place: str) -> bool:
-    """Whether a folder is another one, or in it."""
-    return f"{absolute(path)}/".startswith(f"{absolute(place).rstrip('/')}/")
-
-
-def misplaced(name: str, machine: str, place: str, named: Collection[str]) -> str:
-    """Why a folder isn't that of the machine of which a year or an answer in some folder speaks; nothing if it may be.
-    In that very folder whoever made it may have laid days of his own, and another machine in its own."""
-    if is_within(machine, place):
-        return "which is within the folder that rests on it"
-    if not may_be(name, machine, place):
-        return "which has another name"
-    above = sorted(folders_above(os.path.dirname(absolute(machine))), key=len)
-    other = next((path for path in dropwhile(lambda path: path not in named, above) if has_days(path)), "")
-    return f"which is within {label(other)}, a folder that has days of its own" if other else ""
-
-
-@cache
-def has_days(path: str) -> bool:
-    """Whether folders in one are called after days, as those of a machine are."""
-    with suppress(Fault), Folder(path) as folder:
-        return any(is_day(name) and folder.is_folder(name) for name in folder.names())
-    return False
-
-
-def renamed(machines: Iterable[tuple[str, str]]) -> list[str]:
-    """A note of machines that were called otherwise than their folders are here."""
-    return first_of([f"{in_quotes(name)} is {label(path)} here" for name, path in machines if not ends_so(name, path)],
-                    "machine")
-
-
-def first_of(notes: list[str], what: str) -> list[str]:
-    """The first of some notes, and how many more there are of such."""
-    more = f" ({count(len(notes) - 1, f'more {what}')} too)" if notes[1:] else ""
-    return [f"{note}{more}" for note in notes[:1]]
-
-
-def bare(path: str) -> str:
-    """A path without what leads up."""
-    return "/".join(dropwhile(lambda part: part in (".", ".."), path.strip("/").split("/")))
-
-
 class Compared(NamedTuple):
     """The first difference between what stands in a year and what its days come to, by what is known here, nothing if
     there is none; the days that aren't shown; what is worth a note; and which days hadn't ended, if some had."""
@@ -291,20 +217,14 @@ def compared(folder: Folder, known: Known, leaps: LeapList, signers: Signers = S
     """What of a year stands as its days are, in the folders that are named, beside others of machines."""
     statements = read_statements(folder.data(YEAR))
     machines = [machine_in(stated, lines_in(folder, stated)) for stated in statements.machines]
-    names = ((stated.machine, path) for stated, path in zip(statements.machines, machines) if path != stated.machine)
     wanted = YearCall(statements.year, known, leaps, seconds_of(statements.made), signers,
                       machines=len(statements.machines), namesakes=namesakes([*machines, *others]))
     twins, years = Twins(), list[bytes | Year]()
     for stated in statements.machines:
-        if not is_named(folder, stated):
-            return Compared(f"{label(stated.file)} isn't the file that {YEAR} names")
         lines = lines_in(folder, stated)
-        if wrong := has_one_machine(folder, stated, lines, named):
+        if wrong := other_machine(folder, stated, lines, named):
             return Compared(wrong)
-        try:
-            year = year_stated(stated, lines, wanted)
-        except Fault as error:
-            raise error.of(plain(machine_in(stated, lines))) from None
+        year = year_stated(stated, lines, wanted)
         if wrong := other_days(stated, lines, year, wanted) or \
                 without_says(stated, lines) * bool(statements.pages):
             return Compared(wrong)
@@ -314,26 +234,30 @@ def compared(folder: Folder, known: Known, leaps: LeapList, signers: Signers = S
     for number, (stated, data) in enumerate(zip(statements.machines, years)):
         year = twins.of(number, data if isinstance(data, Year) else unpacked(data))
         if stated_of(year, stated.file, stated.sha256) != stated:
-            here, year = year.programs, replace(year, programs=programs_in(stated.statement))
-            other = [made for made in year.programs if made not in here] or year.programs
-            others.append(f"{BY_ANOTHER}: by {programs_named(other)[:MAX_OF_A_NOTE]}; "
-                          f"here by {programs_named(here) or 'none'}")
+            year, note = by_another(year, programs_in(stated.statement))
+            others.append(note)
         if stated_of(year, stated.file, stated.sha256) != stated:
             return Compared(f"{label(stated.machine)}: the statement doesn't follow from its days, as they are known "
                             "here")
         hidden += not_shown(year)
         unseen += sum(year.signers.values()) if signers.given is None else 0
-    wrong = other_page(folder, statements) if statements.pages else ""
-    notes = first_of(others, "statement") + renamed(names)
+    wrong, of_pages = compared_pages(folder, statements)
+    notes = first_of(others, "statement")
+    notes += renamed((stated.machine, path) for stated, path in zip(statements.machines, machines)
+                     if path != stated.machine)
     notes += first_of([f"signed by {said}, by its statements: that key is called {own} here"
                        for said, own in sorted(signers.called_here.items())], "name")
-    notes += [UNSEEN_OF.format(count(unseen, "day"))] * bool(unseen)
-    notes += [] if wrong else [PAGES if statements.pages else ANY_PAGES]
-    own = {YEAR, SIGNATURES[YEAR], LIST, *statements.pages, *(stated.file for stated in statements.machines)}
-    notes += unanswered_in(folder, own) if statements.pages else []
+    notes += [UNSEEN_OF.format(count(unseen, "day"))] * bool(unseen) + of_pages
     made, first, last = statements.made[:10], *(f"{statements.year}-{day}" for day in ("01-01", "12-31"))
     rest = [f"days from {max(first, made)} on, which hadn't ended when it was made"] * (made <= last)
     return Compared(wrong, hidden + rest * (made <= first), notes, rest * (made > first))
+
+
+def by_another(year: Year, programs: list[Made]) -> tuple[Year, str]:
+    """A year as if these programs had made its audits, and a note of that."""
+    other = [made for made in programs if made not in year.programs] or programs
+    return replace(year, programs=programs), f"{BY_ANOTHER}: by {programs_named(other)[:MAX_OF_A_NOTE]}; " \
+        f"here by {programs_named(year.programs) or 'none'}"
 
 
 def programs_in(statement: str) -> list[Made]:
@@ -343,15 +267,19 @@ def programs_in(statement: str) -> list[Made]:
     return [Made(*found.groups()) for found in PROGRAM.finditer(named)] + rest
 
 
-def other_page(folder: Folder, statements: Statements) -> str:
+def compared_pages(folder: Folder, statements: Statements) -> tuple[str, list[str]]:
     """The first page of a folder that isn't the one of which its year has the sum, or file of days that its year
-    doesn't name; nothing if there is none."""
-    names, pages, files = folder.names(), statements.pages, {stated.file for stated in statements.machines}
+    doesn't name, nothing if there is none; and what is worth a note."""
+    pages, files = statements.pages, {stated.file for stated in statements.machines}
+    if not pages:
+        return "", [ANY_PAGES]
+    names, notes = folder.names(), unanswered_in(folder, {YEAR, SIGNATURES[YEAR], LIST, *pages, *files})
     for name in sorted({*pages, *(name for name in names if name.endswith(PAGE))}):
         if not folder.has(name) or folder.sum(name) != pages.get(name):
-            return f"{label(name)} isn't the page that was signed: {YEAR} has another sum, or none"
-    other = next((name for name in names if name.endswith(DAYS) and name not in files), "")
-    return f"{label(other)} isn't a file that {YEAR} names" if other else ""
+            return f"{label(name)} isn't the page that was signed: {YEAR} has another sum, or none", notes
+    if other := next((name for name in names if name.endswith(DAYS) and name not in files), ""):
+        return f"{label(other)} isn't a file that {YEAR} names", notes
+    return "", [PAGES, *notes]
 
 
 def unanswered_in(folder: Folder, own: Collection[str]) -> list[str]:
@@ -361,13 +289,15 @@ def unanswered_in(folder: Folder, own: Collection[str]) -> list[str]:
     return [f"nobody answers for {label(others[0])}{more}"] if others else []
 
 
-def has_one_machine(folder: Folder, stated: Stated, lines: list[Line], named: Collection[str]) -> str:
-    machines = {os.path.dirname(line.path) or "." for line in lines}
-    if len(machines) > 1:
+def other_machine(folder: Folder, stated: Stated, lines: list[Line], named: Collection[str]) -> str:
+    """Why a file of days isn't that of a machine; nothing if it is."""
+    machine = machine_in(stated, lines)
+    if not is_named(folder, stated):
+        return f"{label(stated.file)} isn't the file that {YEAR} names"
+    if len({os.path.dirname(line.path) for line in lines}) > 1:
         return f"{label(stated.file)} has days of several machines"
-    wrong = next(((machine, why) for machine in machines
-                  if (why := misplaced(stated.machine, machine, folder.path, named))), None)
-    return f"{label(stated.machine)}: its days are in {', '.join(wrong)}" if wrong else ""
+    why = misplaced(stated.machine, machine, folder.path, named) if lines else ""
+    return f"{label(stated.machine)}: its days are in {machine}, {why}" if why else ""
 
 
 def machine_in(stated: Stated, lines: list[Line]) -> str:
@@ -380,9 +310,11 @@ def year_stated(stated: Stated, lines: list[Line], wanted: YearCall) -> Year:
     if not lines:
         return Year(stated.machine, missing_days(wanted.year, wanted.at))
     answering = {os.path.basename(line.path): line.by for line in lines if line.by != VERIFIED}
-    year = year_of(wanted._replace(answering=answering), machine_in(stated, lines),
-                   [os.path.basename(line.path) for line in lines])
-    return replace(year, machine=stated.machine)
+    machine, days = machine_in(stated, lines), [os.path.basename(line.path) for line in lines]
+    try:
+        return replace(year_of(wanted._replace(answering=answering), machine, days), machine=stated.machine)
+    except Fault as error:
+        raise error.of(plain(machine)) from None
 
 
 def other_days(stated: Stated, lines: list[Line], year: Year, wanted: YearCall) -> str:

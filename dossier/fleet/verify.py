@@ -2,7 +2,6 @@
 import os
 from collections import Counter
 from collections.abc import Callable
-from contextlib import suppress
 from typing import NamedTuple
 
 from .. import VERSION
@@ -10,7 +9,7 @@ from ..fault import DEVICE, NOT_SHOWN, Fault, fault, summed
 from ..folder import files
 from ..folder.entry import DISPUTED, OPEN, UNSUPPORTED, YES, Entry, LeapList, Record, Refusal, is_made_anew, read_record
 from ..folder.events import Asked, read_events
-from ..folder.files import Folder, own, sum_of
+from ..folder.files import Folder, absolute, asked, own, sum_of
 from ..folder.jobs import SECONDS, run_all
 from ..folder.older import differs as differs_from_older, form_of, read_any
 from ..folder.program import Program
@@ -26,15 +25,13 @@ from ..verdict.making import Making, sizes_of
 from ..verdict.second import Second
 from ..verdict.sentences import reason
 from .audit import change_of, counted_once
-from .drawing import drawn_of, likelihoods
-from .events import OWN, EventsCall, PageOfEvents, compared as answer_compared, folders_of, is_of_events, renamed_in
+from .drawing import Sample, likelihoods, sample_of
+from .events import OWN, EventsCall, PageOfEvents, compared as answer_compared, folders_of, renamed_in
 from .judging import ONLY_MADE, Judging, Unjudgeable
-from .days import NAMESAKES
-from .planning import (Machines, beside_years, is_of_days, is_of_several, machines_below, names_of, once,
-                       planned, those_among)
+from .machines import NAMESAKES, folders_above, machines_below, names_of, once
+from .planning import BARE, LOOSE, Planning, kind_of, those_among
 from .signature import GOOD, NONE, UNFIT, UNSEEN, Signers, called_by, in_words, signed_in
-from .statements import (Compared as YearCompared, compared as year_compared, days_of, folders_above,
-                         unanswered_in)
+from .statements import Compared as YearCompared, compared as year_compared, days_of, unanswered_in
 from .twins import SeenFolders
 
 SHOWN, MAX_OF_A_DISPUTE = 80, 1000
@@ -237,46 +234,25 @@ class Comparison:
 def verify_all(folders: list[str], verifier: Verifier, signers: Signers, seconds: int, how: How = How()) -> int:
     """Prints `verified` and the verdict, or the first difference, a line for each folder, and notes. The status is 0 if
     all is verified and shown, and 1 if something isn't; or a fault's."""
-    folders = once(folders)
-    named = {files.absolute(folder) for folder in folders}
-    plan = planned(folders, named, seconds)
-    names, beside = (names_of(plan, seconds), beside_years(plan, named)) if how.sample is not None else ({}, set())
-    numbers = Counter(names.values())  # (one that is drawn would be many days at once)
-    alike = {path for path, name in names.items() if numbers[name] > 1}
-    several = those_among([*names], is_of_several, seconds) | alike
-    alone = {path: name for path, name in names.items() if path not in several}
-    drawn = drawn_of(alone, how.sample or 0, how.seed)
-    verifier.known.believes = how.sample is not None and not how.answers
-    left = set(alone).difference(drawn) | beside if how.sample is not None and not how.answers else set()
-    looked_at = [path for path in plan.every if path not in left or path in plan.stated or path in plan.resting]
-    signed = signers.look_at(looked_at, seconds)
-    below, unseen = machines_below(folders, plan.machines, seconds) if signers.given is not None else ({}, {})
-    refused, machines = unseen | plan.refused, plan.machines.among(below)
-    left -= wrongly_signed({path: signer for path, signer in signed.items() if path in left}, machines, seconds)
-    told, seen = Tally(how.as_signed, verifier.known.believes, plan.speaks_of), SeenFolders(len(plan.every))
-
-    def work(path: str, _: int) -> Compared:  # (a year's signature is one for its days)
-        if path in plan.holds and path not in refused and is_of_days(path):
-            return Compared(0, [f"({plan.holds[path]})"], is_same=True)
-        is_asked_for = how.as_signed or files.absolute(path) in named
-        is_drawn = path in drawn or path in several
-        return verify(verifier, signers, Need(is_asked_for, path in plan.resting, refused.get(path)), path, named,
-                      how._replace(answers=how.answers and not is_drawn, known=how.known and not is_drawn), machines)
-    for path, came in run_all([path for path in plan.every if path not in left], work, Compared, seconds):
+    call = Verifying(once(folders), verifier, signers, seconds, how)
+    plan, sample, known = call.plan, call.sample, verifier.known
+    told, seen = Tally(how.as_signed, known.believes, plan.speaks_of), SeenFolders(len(plan.every))
+    looked_at = [path for path in plan.every if path not in call.left]
+    for path, came in run_all(looked_at, call.verify, Compared, seconds):
         result = Compared(came.status, [came.line]) if isinstance(came, Refusal) else came
         if how.answers and result.sum and result.is_same:
-            verifier.known.believed.add(bytes.fromhex(result.sum))
+            known.believed.add(bytes.fromhex(result.sum))
         twins = seen.twins(path, result.claims, result.captures)
         told.tell(path, result, [f"({words})" for words in twins], plan.stated)
     if how.sample is not None:
-        told.say(likelihoods(len(drawn), len(alone)))
-    if several:
-        were = "was" if len(several) == 1 else "were"
-        told.say(f"({count(len(several), 'folder')} of several days, or of one name, {were} made again too)")
+        told.say(likelihoods(len(sample.drawn), sample.days))
+    if sample.several:
+        were = "was" if len(sample.several) == 1 else "were"
+        told.say(f"({count(len(sample.several), 'folder')} of several days, or of one name, {were} made again too)")
     if plan.of_others:
         told.say(f"({count(plan.of_others, 'day')} of another time beside the year's weren't looked at)")
-    if beside & left:
-        told.say(f"({count(len(beside), 'day')} beside the year's weren't looked at)")
+    if sample.beside & call.left:
+        told.say(f"({count(len(sample.beside), 'day')} beside the year's weren't looked at)")
     if how.answers:
         told.say(f"({ONLY_MADE})")
     return told.end()
@@ -322,148 +298,151 @@ class Tally:
 
 
 AS_SIGNED, BEFORE = "{} is as it was signed", "that was here before"
-
-
-def before(verifier: Verifier, folder: Folder, how: How) -> Verified | None:
-    """What an earlier call made of a folder's audit.json, if that is enough, and the files that it names have the sizes
-    that they had then. What was refused, or has to be judged by a second program that hasn't done so, is done anew."""
-    data = audit_json(folder)
-    record, sum_ = read_any(data), sum_of(data)
-    if form_of(data) < VERSION or record.refusal or not verifier.is_judged_twice(record) or \
-            record_by(verifier.leaps, record).verdicts != record.verdicts or \
-            not verifier.known.have_sizes(sum_, sizes_of(folder, record)):
-        return None
-    if verifier.known.shown(sum_, record):
-        return Verified("", [*notes_of(record), BEFORE], record)
-    if how.answers and verifier.known.answers.of(sum_):
-        return Verified("", [*notes_of(record), BEFORE], record, is_judged=True)
-    return None
-
-
-class Need(NamedTuple):
-    """Whether a folder's signature has to be good, unless it is a day on which another folder rests; whether it is
-    such a day; and why its days couldn't be found, if they couldn't."""
-
-    is_signed: bool
-    is_resting: bool
-    refused: Refusal | None
-
-
-def verify(verifier: Verifier, signers: Signers, need: Need, path: str, named: set[str], how: How,
-           machines: Machines) -> Compared:
-    """What verifying a folder comes to. With a file of those who may sign it, a folder that nobody signed differs too,
-    if its own signature has to be one, one that a machine signed which isn't its own, and one whose signature doesn't
-    fit, whatever rests on it."""
-    findings, unsigned, notes = list[str](), list[str](), list[str]()
-    try:
-        with Folder(path) as folder:
-            signature, signed = signers.signature_of(folder), signed_in(folder)
-            is_signed = need.is_signed and (signed in RESTS or not need.is_resting)
-            why = not_its_own(folder, signature.signer, machines) if signature.state == GOOD else ""
-            if signature.state == UNFIT or why and (is_signed or why == OWN_DAYS):
-                unsigned.append(": ".join(filter(None, [in_words(signature), why])))
-            elif signature.state in (GOOD, UNSEEN) or not is_signed:
-                notes += [in_words(signature)] * (signature.state != NONE)
-            elif signature.state != NONE or signers.given is not None:
-                unsigned.append(in_words(signature))
-            if need.refused:
-                raise Fault(need.refused.line, need.refused.status)
-            if signed in RESTS:
-                verifier.known.renew()
-                found = difference_of_days(verifier, folder, named, signers, machines)
-                findings += filter(None, [found.difference])
-                notes += found.notes
-                lines = [*(findings or [words_of(signed, verifier.known)]), *unsigned, *(f"({n})" for n in notes)]
-                is_same = not findings and not unsigned
-                is_shown = not (found.hidden and verifier.known.believes)  # (days weren't looked at one by one)
-                return Compared(0 if is_same and is_shown else NOT_SHOWN, lines, is_same, hidden=found.hidden +
-                                found.rest)
-            earlier = before(verifier, folder, how) if how.known else None
-            difference, others, made, is_judged = \
-                earlier or (verifier.judge(folder) if how.answers else verifier.verify(folder))
-            data = sum_of(audit_json(folder))
-            if is_judged and not difference:
-                verifier.known.add_answers(data, verifier.program.made.sha256, now())
-            if made and not made.refusal and not difference:
-                verifier.known.add_sizes(data, sizes_of(folder, made))
-    except Fault as error:
-        return Compared(error.status, [*findings, error.line, *unsigned, *(f"({note})" for note in notes)])
-    findings += [difference] if difference else []
-    if made and (words := verifier.known.dispute(made)):
-        findings.insert(0, f"{DISPUTED}: {words}")
-    verdicts = Counter(made.verdicts if made else ())
-    words = ", ".join(f"{number} {verdict}" if len(made.entries) > 1 else verdict
-                      for verdict, number in verdicts.items()) if made else ""
-    words += f": {made.refusal.line}" if made and made.refusal else ""
-    lines = [*(findings or [f"{'judged' if is_judged else 'verified'}: {words}"]), *unsigned,
-             *(f"({note})" for note in [*notes, *others])]
-    status, captures = (made.status, sorted(made.recordings)) if made else (NOT_SHOWN, [])
-    is_same = not findings and not unsigned
-    return Compared(status if is_same else NOT_SHOWN, lines, is_same, list(verdicts),
-                    [entry.claim for entry in made.entries] if made else [], captures, sum=data if is_same else "")
-
-
-def not_its_own(folder: Folder, signer: str, machines: Machines) -> str:
-    """Why a machine's signature doesn't count, if it doesn't: the machine signed what isn't a day of its own, a year or
-    an answer to a log, or a day of another one; or another one is called alike. A machine is what is called so, among
-    those that are looked at, beside their folders, below what is named, or in what is signed."""
-    signed, path, called = signed_in(folder), files.absolute(folder.path), called_by(signer)
-    above, names, places = os.path.dirname(path), machines.names, machines.places
-    if signed == files.AUDIT:
-        own = {os.path.basename(one) for one in (path, above, *(machines.folders & folders_above(path)))}
-        machine = next((name for name in called if name in own | names), "")
-        if machine in own:
-            return NAMESAKES.format(machine) if machine in machines.alike else ""
-        places |= {above, os.path.dirname(above)}
-    else:
-        names |= stated_in(folder.data(signed), signed)
-    return OWN_DAYS if not names.isdisjoint(called) or any(is_in(place, name) for place in places for name in called) \
-        else ""
-
-
-def wrongly_signed(signed: dict[str, str], machines: Machines, seconds: int) -> set[str]:
-    """The days on which something rests that aren't drawn, and of which the signature doesn't fit, or is another
-    machine's: these are looked at too."""
-    others = [path for path, signer in signed.items() if signer and signer != os.path.basename(os.path.dirname(path))]
-    wrong = those_among(others, lambda folder: not_its_own(folder, signed[folder.path], machines) == OWN_DAYS, seconds)
-    return wrong | {path for path, signer in signed.items() if not signer}
-
-
-def stated_in(data: bytes, signed: str) -> set[str]:
-    """The last names of the machines of a year, or of an answer to a log."""
-    machines = [one.machine for one in read_statements(data).machines] if signed == files.YEAR else \
-        [one.machine for one in read_events(data).machines]
-    return {os.path.basename(os.path.normpath(machine)) for machine in machines}
-
-
-def is_in(place: str, name: str) -> bool:
-    """Whether there is a folder of a name in one."""
-    with suppress(Fault), Folder(place) as folder:
-        return folder.is_folder(name)
-    return False
-
-
+RESTS = {files.YEAR: ("its statements follow from", "its days"),
+         files.EVENTS: ("its times follow from the log and from", "its machines' folders")}
 OWN_DAYS = "a machine's key signs its own days alone"
 
 
-def difference_of_days(verifier: Verifier, folder: Folder, named: set[str], signers: Signers,
-                       machines: Machines) -> YearCompared:
-    """The first difference between a year's statements, or an answer to a log, and what their days come to, by what is
-    known of these now; and the days of a year that aren't shown."""
-    if is_of_events(folder):
-        folders_of(folder, named)
-        call = EventsCall(Asked(), verifier.known, verifier.leaps, verifier.program, SECONDS, page=verifier.page,
-                          signers=signers, others=machines.every)
-        found = answer_compared(folder, call)
-        notes = [found.by_another] * bool(found.by_another) + renamed_in(folder) + unanswered_in(folder, OWN)
-        return YearCompared(found.difference, notes=notes,
-                            rest=[f"{count(found.untimed, 'event')} without a time"] * bool(found.untimed))
-    days_of(folder, named)
-    return year_compared(folder, verifier.known, verifier.leaps, signers, named, machines.every)
+class Verifying:
+    """A call that verifies folders. (A signature of a year or an answer is one for the days on which it rests.)"""
+
+    def __init__(self, folders: list[str], verifier: Verifier, signers: Signers, seconds: int, how: How):
+        self.verifier, self.known, self.signers, self.how = verifier, verifier.known, signers, how
+        self.named = {absolute(folder) for folder in folders}
+        self.plan = plan = Planning(folders, self.named, seconds).plan()
+        self.sample = Sample() if how.sample is None else sample_of(plan, self.named, how.sample, how.seed, seconds)
+        self.known.believes = how.sample is not None and not how.answers
+        self.left = set[str]() if how.answers else self.sample.left
+        signed = signers.look_at([path for path in plan.every if path not in self.left or path in plan.stated
+                                  or path in plan.resting], seconds)
+        below, unseen = machines_below(folders, plan.machines, seconds) if signers.given is not None else ({}, {})
+        self.refused, self.machines = unseen | plan.refused, plan.machines.among(below)
+        self.left = self.left - self.wrongly_signed(signed, seconds)
+
+    def wrongly_signed(self, signed: dict[str, str], seconds: int) -> set[str]:
+        """The days that aren't drawn, on which something rests, and of which the signature doesn't fit, or is another
+        machine's: these are looked at too."""
+        signed = {path: signer for path, signer in signed.items() if path in self.left}
+        others = [day for day, signer in signed.items() if signer not in ("", os.path.basename(os.path.dirname(day)))]
+        wrong = those_among(others, lambda day: self.not_its_own(day, signed[day.path]) == OWN_DAYS, seconds)
+        return wrong | {path for path, signer in signed.items() if not signer}
+
+    def verify(self, path: str, _: int) -> Compared:
+        """What verifying a folder comes to."""
+        unsigned, notes = list[str](), list[str]()
+        if path in self.plan.holds and path not in self.refused and holds_days(path):
+            return Compared(0, [f"({self.plan.holds[path]})"], is_same=True)
+        try:
+            with Folder(path) as folder:
+                signed = signed_in(folder)
+                unsigned, notes = self.of_signature(folder, signed)
+                if refused := self.refused.get(path):
+                    raise Fault(refused.line, refused.status)
+                found, others = self.of_days(folder, signed) if signed in RESTS else self.of_audit(folder)
+        except Fault as error:
+            return Compared(error.status, [error.line, *unsigned, *(f"({note})" for note in notes)])
+        found = replace(found, lines=[*found.lines, *unsigned, *(f"({note})" for note in [*notes, *others])])
+        return replace(found, status=NOT_SHOWN, is_same=False, sum="") if unsigned else found
+
+    def of_signature(self, folder: Folder, signed: str) -> tuple[list[str], list[str]]:
+        """What is wrong with a folder's signature, and what is worth a note of it. With a file of those who may sign
+        one is wrong that doesn't fit, or is a machine's of what isn't its own, whatever rests on the folder; any other,
+        or none, if the folder's own has to be good."""
+        signature = self.signers.signature_of(folder)
+        is_needed = (self.how.as_signed or absolute(folder.path) in self.named) and \
+            (signed in RESTS or folder.path not in self.plan.resting)
+        why = self.not_its_own(folder, signature.signer) if signature.state == GOOD else ""
+        if signature.state == UNFIT or why and (is_needed or why == OWN_DAYS):
+            return [": ".join(filter(None, [in_words(signature), why]))], []
+        if signature.state in (GOOD, UNSEEN) or not is_needed:
+            return [], [in_words(signature)] * (signature.state != NONE)
+        return [in_words(signature)] * (signature.state != NONE or self.signers.given is not None), []
+
+    def not_its_own(self, folder: Folder, signer: str) -> str:
+        """Why a machine's signature doesn't count, if it doesn't: the machine signed what isn't a day of its own, a
+        year or an answer to a log, or a day of another one; or another one is called alike. A machine is what is called
+        so, among those that are looked at, beside their folders, below what is named, or in what is signed."""
+        signed, path, called, machines = signed_in(folder), absolute(folder.path), called_by(signer), self.machines
+        above, names, places = os.path.dirname(path), machines.names, machines.places
+        if signed == files.AUDIT:
+            own = {os.path.basename(one) for one in (path, above, *(machines.folders & folders_above(path)))}
+            machine = next((name for name in called if name in own | names), "")
+            if machine in own:
+                return NAMESAKES.format(machine) if machine in machines.alike else ""
+            places |= {above, os.path.dirname(above)}
+        else:
+            data = folder.data(signed)
+            names |= names_of(map(os.path.normpath, (
+                [one.machine for one in read_statements(data).machines] if signed == files.YEAR else
+                [one.machine for one in read_events(data).machines])))
+        is_one = not names.isdisjoint(called) or any(
+            asked(place, lambda beside: any(map(beside.is_folder, called)), False) for place in places)
+        return OWN_DAYS if is_one else ""
+
+    def of_days(self, folder: Folder, signed: str) -> tuple[Compared, list[str]]:
+        """What a year's statements, or an answer to a log, come to by what is known of their days now; and notes."""
+        self.known.renew()
+        if signed == files.YEAR:
+            days_of(folder, self.named)
+            found = year_compared(folder, self.known, self.verifier.leaps, self.signers, self.named,
+                                  self.machines.every)
+        else:
+            folders_of(folder, self.named)
+            call = EventsCall(Asked(), self.known, self.verifier.leaps, self.verifier.program, SECONDS,
+                              page=self.verifier.page, signers=self.signers, others=self.machines.every)
+            answer = answer_compared(folder, call)
+            notes = [answer.by_another] * bool(answer.by_another) + renamed_in(folder) + unanswered_in(folder, OWN)
+            rest = [f"{count(answer.untimed, 'event')} without a time"] * bool(answer.untimed)
+            found = YearCompared(answer.difference, notes=notes, rest=rest)
+        is_shown = not (found.hidden and self.known.believes)  # (days weren't looked at one by one)
+        return Compared(0 if is_shown and not found.difference else NOT_SHOWN,
+                        [found.difference or words_of(signed, self.known)], not found.difference,
+                        hidden=found.hidden + found.rest), found.notes
+
+    def of_audit(self, folder: Folder) -> tuple[Compared, list[str]]:
+        """What an audit comes to; and notes. What is drawn is made again."""
+        is_drawn = folder.path in self.sample.drawn or folder.path in self.sample.several
+        by_answers = self.how.answers and not is_drawn
+        earlier = self.before(folder, by_answers) if self.how.known and not is_drawn else None
+        difference, notes, made, is_judged = \
+            earlier or (self.verifier.judge(folder) if by_answers else self.verifier.verify(folder))
+        if not made:
+            return Compared(NOT_SHOWN, [difference]), notes
+        data = sum_of(audit_json(folder))
+        if is_judged and not difference:
+            self.known.add_answers(data, self.verifier.program.made.sha256, now())
+        if not made.refusal and not difference:
+            self.known.add_sizes(data, sizes_of(folder, made))
+        disputed = self.known.dispute(made)
+        verdicts = Counter(made.verdicts)
+        words = ", ".join(f"{number} {verdict}" if len(made.entries) > 1 else verdict
+                          for verdict, number in verdicts.items()) + (f": {made.refusal.line}" if made.refusal else "")
+        lines = [*filter(None, [disputed and f"{DISPUTED}: {disputed}", difference])]
+        return Compared(NOT_SHOWN if lines else made.status,
+                        lines or [f"{'judged' if is_judged else 'verified'}: {words}"], not lines, list(verdicts),
+                        [entry.claim for entry in made.entries], sorted(made.recordings),
+                        sum="" if lines else data), notes
+
+    def before(self, folder: Folder, by_answers: bool) -> Verified | None:
+        """What an earlier call made of a folder's audit.json, if that is enough, and the files that it names have the
+        sizes that they had then. What was refused, or has to be judged by a second program that hasn't done so, is done
+        anew."""
+        data = audit_json(folder)
+        record, sum_ = read_any(data), sum_of(data)
+        if form_of(data) < VERSION or record.refusal or not self.verifier.is_judged_twice(record) or \
+                record_by(self.verifier.leaps, record).verdicts != record.verdicts or \
+                not self.known.have_sizes(sum_, sizes_of(folder, record)):
+            return None
+        is_judged = not self.known.shown(sum_, record)
+        if is_judged and not (by_answers and self.known.answers.of(sum_)):
+            return None
+        return Verified("", [*notes_of(record), BEFORE], record, is_judged)
 
 
-RESTS = {files.YEAR: ("its statements follow from", "its days"),
-         files.EVENTS: ("its times follow from the log and from", "its machines' folders")}
+def holds_days(path: str) -> bool:
+    """Whether a folder is none that anybody signs, and nothing of such is left there."""
+    with Folder(path) as folder:
+        return kind_of(folder) in (LOOSE, BARE)
 
 
 def words_of(name: str, known: Known) -> str:

@@ -8,9 +8,10 @@ import os
 import re
 import stat
 from collections.abc import Callable, Iterator
-from contextlib import contextmanager
+from contextlib import contextmanager, suppress
 from io import BufferedReader
 from itertools import islice
+from typing import TypeVar
 
 from ..fault import DEVICE, Fault, fault
 
@@ -52,7 +53,7 @@ MAX_OF_A_CAPTURE, MAX_NAMES = 1 << 32, 100_000
 KINDS = {stat.S_IFIFO: "a FIFO", stat.S_IFLNK: "a link", stat.S_IFDIR: "a folder", stat.S_IFSOCK: "a socket",
          stat.S_IFCHR: "a device", stat.S_IFBLK: "a block device"}
 FILE = "a file"
-BLOCK = 1 << 20
+BLOCK = 1 << 18
 """Bytes of a file that are read at once."""
 OF_A_FOLDER = os.O_RDONLY | os.O_DIRECTORY | os.O_NOFOLLOW | os.O_CLOEXEC
 OF_A_FILE = os.O_RDONLY | os.O_NONBLOCK | os.O_NOCTTY | os.O_CLOEXEC
@@ -273,6 +274,16 @@ class Folder:
                 read_once(parent, file, name, take, limit_of(name))
         except OSError as error:
             raise unreadable(name, error) from None
+
+
+T = TypeVar("T")
+
+
+def asked(path: str, question: Callable[[Folder], T], unknown: T) -> T:
+    """What a question comes to of a folder; else what is taken for that where nobody can look."""
+    with suppress(Fault), Folder(path) as folder:
+        return question(folder)
+    return unknown
 
 
 def read_named(path: str, take: Callable[[bytes], object], most: int) -> None:

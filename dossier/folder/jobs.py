@@ -100,7 +100,7 @@ def stream(words: Sequence[str], take: Callable[[bytes], object], given: str = o
            cwd: str = ".") -> tuple[int, bytes]:
     """Calls a program with a file on its standard input, and hands on what it prints, as it comes. Its status, that of
     a signal below zero, and what it printed on standard error."""
-    with nameless(cwd) as error:
+    with nameless() as error:
         with own(given) as opened, begun(words, stdin=opened, stdout=PIPE, stderr=error, cwd=cwd) as call:
             assert call.stdout
             widen(call.stdout)

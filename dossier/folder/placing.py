@@ -108,12 +108,13 @@ def make_private(path: str) -> None:
 
 
 @contextmanager
-def nameless(place: str) -> Iterator[int]:
-    """A new file in a private folder, which is gone after a while."""
-    name = os.path.abspath(f"{place}/{os.urandom(8).hex()}")
-    with held(name, HOME, os.O_RDWR | os.O_CREAT | os.O_EXCL | os.O_CLOEXEC) as file:
-        os.unlink(name)
+def nameless() -> Iterator[int]:
+    """A new file in memory, which is gone after a while."""
+    file = os.memfd_create("nameless")
+    try:
         yield file
+    finally:
+        os.close(file)
 
 
 def copy_named(path: str, to: str, most: int = MAX_OF_A_CAPTURE) -> None:

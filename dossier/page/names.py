@@ -8,7 +8,7 @@ import re
 from collections.abc import Iterable
 
 from ..fault import USAGE, Fault, fault
-from ..fleet.statements import is_within
+from ..fleet.machines import is_within
 from ..folder.entry import line_of_sum
 from ..folder.files import LIST, SIGNATURES, Folder, sum_of
 from ..folder.placing import take_away

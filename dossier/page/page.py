@@ -208,7 +208,8 @@ def write_page(folders: list[str], given: argparse.Namespace, known: Known, leap
 def years_of(folders: list[str], given: argparse.Namespace, known: Known, leaps: LeapList) -> list[str]:
     """Writes a calendar of each year below the page, if the folders are days: of all days that stand beside them. Which
     years these are."""
-    from ..fleet.days import YearCall, is_day, machines_of
+    from ..fleet.days import YearCall
+    from ..fleet.machines import is_day, machines_of
     from .years import Pages, write_year
     if not all(is_day(os.path.basename(folder)) for folder in folders):
         return []

@@ -6,7 +6,7 @@ from collections.abc import Iterator
 from typing import NamedTuple
 
 from ..fault import USAGE, Fault, fault
-from ..fleet.days import days_among, is_day
+from ..fleet.machines import days_among, is_day
 from ..fleet.events import (Answered, EventsCall, Row, Working, csv_of, latest_so_far, machines_in, notes_of,
                             stated)
 from ..folder.files import EVENTS, data_named

@@ -7,10 +7,10 @@ from itertools import groupby
 from typing import NamedTuple
 
 from ..fault import Fault, fault
-from ..fleet.days import (Twins, YearCall, days_among, in_a_line, is_day, machines_of, namesakes, packed, unpacked,
-                          year_of)
-from ..fleet.planning import folders_in, others_in
+from ..fleet.days import YearCall, year_of
+from ..fleet.machines import days_among, folders_in, in_a_line, is_day, machines_of, namesakes, others_in
 from ..fleet.statements import DAYS, PAGE, lines_of, stated_of, statement
+from ..fleet.twins import Twins, packed, unpacked
 from ..folder.entry import YES, Refusal
 from ..folder.files import YEAR
 from ..folder.jobs import run_all, run_one

@@ -108,7 +108,7 @@ def take_inputs(folder: Folder, record: Record | None, believed: dict[str, str] 
         copy = CLAIM if name == CLAIM else f"{len(taken.copies)}.pcap" if is_capture(name) else ""
         if file != name:
             packed[name] = f"{copy}.zst"
-            copy_of(folder, file, packed[name])
+            copy_unsummed(folder, file, packed[name])
         elif name in believed:
             copy_unsummed(folder, file, copy)
         else:
@@ -124,9 +124,14 @@ def take_inputs(folder: Folder, record: Record | None, believed: dict[str, str] 
     return taken
 
 
+def joined_of(taken: Inputs, claim: Claim, program: Program) -> AuditedCapture:
+    """One capture of all that were recorded."""
+    return thinned(audited(taken.copies, program), claim, program)
+
+
 def whole_of(taken: Inputs, claim: Claim, program: Program) -> AuditedCapture:
     """The capture that is audited: all that were recorded, each packet once."""
-    return once(thinned(audited(taken.copies, program), claim, program), program)
+    return once(joined_of(taken, claim, program), program)
 
 
 def make(taken: Inputs, options: Options, leaps: LeapList, backed: Backing, program: Program,

@@ -410,8 +410,8 @@ def test_answers(place: Path) -> None:
                  [*(words for verdict in ("yes", "yes", "refuted", "no evidence") for words in (
                      f"judged: {verdict}", "(by another build of the program than the audit's)")), ""]),
           told=("bounds, reasons, and warnings that take no yes away are as audit.json has them" in out.decode(), True),
-          calls=(calls[1:], [*["samples", "check --sums", "refute --drift"] * 2, "samples", "samples",
-                             "refute --drift", "refute --drift", "samples", "settle"]))
+          calls=(calls[1:], [*["check --sums", "refute --drift"] * 2, "samples", "samples", "refute --drift",
+                             "refute --drift", "samples", "settle"]))
     second = dossier("verify", "--answers", "--second", *days_of(own))[1].decode()
     check("days by their answers and two programs", judged=(second.count("(judged by two programs)"), 4))
     for path, verdict, reason, words in (

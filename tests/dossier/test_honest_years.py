@@ -15,8 +15,7 @@ from tests.dossier.test_years import DAY, FIRST, RIGHT, WIDE, day
 from tests.dossier.test_years_held import sign
 from tests.tools.wire import records_of
 
-from dossier.fleet.days import in_words
-from dossier.fleet.statements import in_quotes, may_be
+from dossier.fleet.machines import in_quotes, in_words, may_be
 
 WAYS = "", "--answers", "--known", "--second", "--sample 2 --seed x", "--answers --known"
 

@@ -17,7 +17,7 @@ from tests.dossier.test_daily import name_by_hand
 from tests.dossier.test_evidence import key_of
 from tests.dossier.test_verdicts import CLAIM
 
-from dossier.fleet.statements import may_be
+from dossier.fleet.machines import may_be
 
 DAY, FIRST = 86_400, 999_993_600
 """Seconds; and 2001-09-09T00:00:00Z."""

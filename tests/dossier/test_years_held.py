@@ -15,7 +15,7 @@ from tests.dossier.test_years import RIGHT, day
 
 from dossier import units
 from dossier.fault import Fault
-from dossier.fleet import days, planning, statements
+from dossier.fleet import days, machines, planning, statements, twins
 from dossier.folder.entry import Made
 from dossier.folder.files import Folder
 from dossier.folder.registry import Known
@@ -255,7 +255,7 @@ def test_large_files_of_days(place: Path) -> None:
     deep = f"{place}{'/x' * 1500}"
     file.write_text("".join(f"{'0' * 64} verified {deep}/{number}\n" for number in range(360)))
     change_lines(pages, "", "")
-    with mock.patch.object(statements, "folders_above", wraps=statements.folders_above) as above:
+    with mock.patch.object(statements, "folders_above", wraps=machines.folders_above, create=True) as above:
         with Folder(str(pages)) as folder:
             days = statements.days_of(folder, {str(place)})
     check("deep paths", days=([*days.values()], ["0" * 64] * 360), calls=(above.call_count, 0))
@@ -549,7 +549,7 @@ def test_many_lines(place: Path) -> None:
                  "file": "e.days", "sha256": sum_of(b"")} for k in range(9)]
     (pages / "year.json").write_text(json.dumps({**kept, "machines": machines, "pages": {}}))
     with (mock.patch("dossier.fleet.days.day_of", wraps=units.day_of) as day_of,
-          mock.patch("dossier.fleet.statements.packed", wraps=days.packed) as packed, Folder(str(pages)) as folder):
+          mock.patch("dossier.fleet.statements.packed", wraps=twins.packed) as packed, Folder(str(pages)) as folder):
         found = statements.compared(folder, Known(str(place / "state"), False), read_list(None))
     check("empty machines", difference=(found.difference, ""), hidden=(len(found.hidden), 9),
           calls=((day_of.call_count < 400, packed.call_count), (True, 0)))
