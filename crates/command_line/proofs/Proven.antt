@@ -83,8 +83,7 @@ not_cutting (inr envelope) = not_so _ refl envelope
 not_refused : (rows : List Row) (told : Text) → IsRefusable (codes "check") rows told → ⊥
 not_refused rows told (inl named) = true≢false named.0
 not_refused rows told (inr (inl unstepped)) = not_cutting unstepped.0
-not_refused rows told (inr (inr (inl untimed))) = not_so _ refl untimed.0
-not_refused rows told (inr (inr (inr covered))) = not_so _ refl covered.0
+not_refused rows told (inr (inr untimed)) = not_so _ refl untimed.0
 
 abbrev places_at : Text → Text → Text → Option Text → Places
 places_at claim second capture sums = record {
