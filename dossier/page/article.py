@@ -38,7 +38,7 @@ COUNTS = {
 
 
 def parts() -> Any:
-    """The parts of an article, as its template has them."""
+    """The parts of an article: its template, which Jinja2 reads."""
     return templates().get_template("article.html").module
 
 
