@@ -149,6 +149,15 @@ class Planning:
         name = os.path.basename(path)
         return not is_day(name) or any(name[:4] == year and name < made for year, made in self.spans)
 
+    def days_among(self, every: list[str], holds: dict[str, str]) -> tuple[list[str], list[str]]:
+        """The days among all that are looked at: on which a year rests, called after one, or audited; and the absolute
+        paths of those that may be their machines too, since nothing rests on them, and they aren't called so."""
+        rest = [path for path in every if path not in self.stated and not is_day(os.path.basename(path))
+                and path not in holds and path not in self.answers]
+        audited = those_among(rest, may_be_day, self.seconds, or_unknown=False)
+        return [path for path in every if path in self.stated or is_day(os.path.basename(path))
+                or path in audited], [absolute(path) for path in rest if path in audited]
+
     def plan(self) -> Plan:
         """The plan. Of a day that is named, though an answer rests on it, the signature has to be good, if it has one.
         """
@@ -156,13 +165,13 @@ class Planning:
         every = once([self.spelled.get(absolute(path), path) for folder in self.folders
                       for path in (*self.before.get(folder, ()), folder) if path not in self.answers])
         every += self.answers
-        days = [path for path in every if path in self.stated or is_day(os.path.basename(path))]
+        days, apart = self.days_among(every, holds)
         resting = {path: day for path in every if (day := absolute(path)) in self.rests}
         years = [year for year, _ in self.spans]
         beside = names_of({*days, *resting} - self.stated.keys())
         of_years = {*years, *(name[:4] if is_day(name) else "" for name in beside)}
         own = above_all(days + others)
-        machines = Machines(own, names_of(own), above_all(own), above_all(days),
+        machines = Machines(own, names_of(own), above_all(own), above_all(days).union(apart),
                             resting=above_all(resting.keys() & days),
                             years=frozenset(() if "" in of_years else of_years))
         unsigned = {day for day in self.named & self.answered
@@ -209,6 +218,11 @@ def is_few(days: list[str]) -> None:
 
 def is_there(path: str) -> bool:
     return asked(path, lambda _: True, False)
+
+
+def may_be_day(folder: Folder) -> bool:
+    """Whether an audit is in a folder, or the signature of one."""
+    return folder.has(files.AUDIT) or folder.has(files.SIGNATURE)
 
 
 def may_be_signed(path: str) -> bool:

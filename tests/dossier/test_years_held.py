@@ -107,6 +107,39 @@ def test_keys_of_machines(place: Path) -> None:
               said=(told[1].decode().count(OWN), int(is_others)))
 
 
+def test_keys_of_named_days(place: Path) -> None:
+    """A day that is named is its machine's, whatever its folder is called, and however that is spelled."""
+    if not is_here("ssh-keygen", "a fleet that signs"):
+        return
+    signers, one, two = signers_of(place, "web-1", "web-2"), *(day(place / "days", k, RIGHT) for k in (0, 1))
+    dossier("audit", one, two)
+    words = "more than one machine is called web-1"
+    for names, key, said in rows(
+            (("k/a/web-1/monday", "k/b/web-2/monday"), "web-2", OWN),
+            (("k/a/web-1/2001-09-09/.", "k/b/web-2/2001-09-10/."), "web-2", OWN),
+            (("k/a/web-1/2001-09-09", "k/b/web-2/2001-09-10//./"), "web-2", OWN),
+            (("x/a/web-1/monday", "x/b/web-1/monday"), "web-1", words),
+            (("x/paris/web-1/2001-09-09/.", "x/london/web-1/2001-09-09/."), "web-1", words),
+            (("x/paris/web-1/monday/x/..", "x/london/web-1/monday/x/.."), "web-1", words),
+            (("m/paris/web-1", "m/london/web-1"), "web-1", words),
+            (("m/paris/web-1", "m/london/web-2"), "", "")):
+        for name, folder in zip(names, (one, two)):
+            shutil.copytree(folder, place / name.removesuffix("/x/.."))
+            (place / name.removesuffix("..")).mkdir(exist_ok=True)
+            sign(place, key or os.path.basename(name), place / name / "audit.json")
+        status, out, _ = dossier("verify", "--known", "--as-signed", "--signers", signers, *(
+            f"{place}/{name}" for name in names))
+        check(f"{' and '.join(names)} by {key or 'their keys'}", status=(status, int(bool(said))), said=(
+            said in out.decode(), True))
+        shutil.rmtree(place / names[0].partition("/")[0])
+    log = log_of(place, f"machine,time\ndays,{NOON}Z\n")
+    for end in "", "/", "/.", "/.//./":
+        check(f"an answer by a day and {end}", status=(dossier("events", log, f"{one}{end}")[0], 0))
+        year_of(place, f"{one}{end}")
+        check(f"a year by a day and {end}", is_there=((place / "pages" / f"{called(one.parent)}.days").exists(), True))
+        shutil.rmtree(place / "pages")
+
+
 def test_keys_of_two_levels(place: Path) -> None:
     """A machine's key signs its own days alone, in a fleet of sites too; that of a site signs what is of its machines.
     """
