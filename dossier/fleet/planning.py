@@ -196,7 +196,7 @@ def days_beside(path: str, machines: list[str], rests: set[str]) -> list[str]:
     """The folders of all days in a folder, in those in it, in those of machines below it, and in those beside these;
     and the folders among these that can't be looked into. In one on which a year rests parts of its audit are none."""
     places, days = [path, *folders_in(path, are_days=False), *machines], list[str]()
-    for place in {os.path.dirname(machine) or "." for machine in machines}:
+    for place in {os.path.normpath(os.path.join(machine, "..")) for machine in machines}:
         if absolute(path) in folders_above(place):
             places += [place, *others_in(place)]
         is_few(places)

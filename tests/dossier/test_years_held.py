@@ -11,7 +11,7 @@ from tests.support import ROOT, check, is_here, run, sum_of
 from tests.dossier.audits import ENVIRONMENT, called, dossier, rows
 from tests.dossier.test_events import NOON, log_of
 from tests.dossier.test_evidence import key_of
-from tests.dossier.test_years import RIGHT, day
+from tests.dossier.test_years import RIGHT, WIDE, day
 
 from dossier import units
 from dossier.fault import Fault
@@ -246,6 +246,25 @@ def test_left_out(place: Path) -> None:
         check(f"days beside a year, in {named}", said=(out.count("fleet/web-9/2001-09-10: verified: yes"), 1))
     out = dossier("verify", "--known", pages, own)[1].decode()
     check("days beside what is named", said=("web-9" in out, False))
+
+
+def test_days_beside(place: Path) -> None:
+    """A day beside a year that isn't of it is looked at, from wherever its folders are named."""
+    good, bad = day(place / "days", 0, RIGHT), day(place / "days", 1, WIDE, drift_ppb=1)
+    dossier("audit", good, bad)
+    for at, machine, named, beside in rows(
+            (".", "fleet/a/web-1", "fleet", "fleet/a/web-2/2001-09-09"),
+            ("fleet/a/web-1", ".", "../..", "fleet/a/web-2/2001-09-09"),
+            ("fleet/a/web-1/x", "..", "../../..", "fleet/a/web-2/2001-09-09")):
+        (place / at).mkdir(parents=True, exist_ok=True)
+        shutil.copytree(good, place / "fleet/a/web-1/2001-09-09")
+        pages = year_of(place / at, machine, cwd=place / at)
+        shutil.copytree(bad, place / beside)
+        out = dossier("verify", "--known", "pages", named, cwd=place / at)[1].decode()
+        check(f"{beside} beside a year of {machine} in {at}", lines=(out.count(": verified: refuted"), 1), year=(
+            f"pages: {FOLLOWS}" in out, True))
+        shutil.rmtree(pages)
+        shutil.rmtree(place / "fleet")
 
 
 def test_audit_of_a_machine(place: Path) -> None:
