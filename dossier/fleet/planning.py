@@ -194,8 +194,12 @@ def those_among(paths: list[str], is_one: Callable[[Folder], bool], seconds: int
 
 def days_beside(path: str, machines: list[str], rests: set[str]) -> list[str]:
     """The folders of all days in a folder, in those in it, in those of machines below it, and in those beside these;
-    and the folders among these that can't be looked into. In one on which a year rests parts of its audit are none."""
+    and the folders among these that can't be looked into. In one on which a year rests parts of its audit are none. In
+    those of machines each with an audit is one."""
     places, days = [path, *folders_in(path, are_days=False), *machines], list[str]()
+    for machine in machines:
+        days += [day for day in others_in(machine) if asked(day, may_be_day, True)]
+        is_few(days)
     for place in {os.path.normpath(os.path.join(machine, "..")) for machine in machines}:
         if absolute(path) in folders_above(place):
             places += [place, *others_in(place)]

@@ -254,6 +254,7 @@ def test_days_beside(place: Path) -> None:
     dossier("audit", good, bad)
     for at, machine, named, beside in rows(
             (".", "fleet/a/web-1", "fleet", "fleet/a/web-2/2001-09-09"),
+            (".", "fleet/a/web-1", "fleet", "fleet/a/web-1/monday"),
             ("fleet/a/web-1", ".", "../..", "fleet/a/web-2/2001-09-09"),
             ("fleet/a/web-1/x", "..", "../../..", "fleet/a/web-2/2001-09-09")):
         (place / at).mkdir(parents=True, exist_ok=True)
