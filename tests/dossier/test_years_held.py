@@ -174,7 +174,7 @@ def test_namesakes_of_two_years(place: Path) -> None:
     words = "more than one machine is called web-1, so nobody knows whose key that is"
     for named, within in (years[:1], "fleet"), (years[1:], "fleet"), (years, "fleet"), (years[:1], "fleet/paris"):
         status, out, _ = dossier("verify", "--as-signed", "--signers", signers, *named, place / within)
-        number = len(named) if within == "fleet" else 0
+        number = 2 * (within == "fleet")  # (beside one year the other's day is looked at)
         check(f"{len(named)} years of machines of one name in {within}", status=(status, int(number > 0)),
               said=(out.decode().count(words), number))
 
@@ -255,10 +255,12 @@ def test_days_beside(place: Path) -> None:
     for at, machine, named, beside in rows(
             (".", "fleet/a/web-1", "fleet", "fleet/a/web-2/2001-09-09"),
             (".", "fleet/a/web-1", "fleet", "fleet/a/web-1/monday"),
+            (".", "fleet/a/web-1", "fleet", "fleet/b/web-2/2001-09-09"),
+            (".", "fleet/web-1", "fleet", "fleet/b/web-2/2001-09-09"),
             ("fleet/a/web-1", ".", "../..", "fleet/a/web-2/2001-09-09"),
             ("fleet/a/web-1/x", "..", "../../..", "fleet/a/web-2/2001-09-09")):
         (place / at).mkdir(parents=True, exist_ok=True)
-        shutil.copytree(good, place / "fleet/a/web-1/2001-09-09")
+        shutil.copytree(good, os.path.normpath(place / at / machine / "2001-09-09"))
         pages = year_of(place / at, machine, cwd=place / at)
         shutil.copytree(bad, place / beside)
         out = dossier("verify", "--known", "pages", named, cwd=place / at)[1].decode()
