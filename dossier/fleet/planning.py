@@ -2,7 +2,7 @@
 rest, and all days beside these.
 """
 import os
-from collections.abc import Callable, Iterator
+from collections.abc import Callable, Iterable, Iterator
 from contextlib import suppress
 from typing import NamedTuple
 
@@ -128,10 +128,10 @@ class Planning:
                 said[folder] = "no year or answer that is named rests on what is in it"
         return said
 
-    def look_beside(self) -> list[str]:
+    def look_beside(self, holds: Iterable[str]) -> list[str]:
         """Puts the days that stand beside a year's before the folder in which they are, and gives those of another
-        time, which aren't looked at. (From a year days of a bare folder may have been left out.)"""
-        within = dict.fromkeys(map(absolute, self.bare if self.spans else ()), list[str]()) | self.within
+        time, which aren't looked at. (From a year days of a folder that holds days alone may have been left out.)"""
+        within = dict.fromkeys(map(absolute, {*self.bare, *holds} if self.spans else ()), list[str]()) | self.within
         seen, others = self.named | self.rests, list[str]()
 
         def work(path: str, _: int) -> list[str]:
@@ -161,7 +161,7 @@ class Planning:
     def plan(self) -> Plan:
         """The plan. Of a day that is named, though an answer rests on it, the signature has to be good, if it has one.
         """
-        holds, others = self.holding(), self.look_beside()
+        others = self.look_beside(holds := self.holding())
         every = once([self.spelled.get(absolute(path), path) for folder in self.folders
                       for path in (*self.before.get(folder, ()), folder) if path not in self.answers])
         every += self.answers

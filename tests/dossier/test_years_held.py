@@ -270,6 +270,27 @@ def test_days_beside(place: Path) -> None:
         shutil.rmtree(place / "fleet")
 
 
+def test_days_beside_pages(place: Path) -> None:
+    """Pages, or a claim, in a folder with days on which an answer rests hide none of its other days from a year."""
+    good, bad = day(place / "days", 0, RIGHT), day(place / "days", 1, WIDE, drift_ppb=1)
+    dossier("audit", good, bad)
+    for machine in "fleet/a/web-1", "other/web-2":
+        shutil.copytree(good, place / machine / "2001-09-09")
+    shutil.copytree(bad, place / "other/web-2/2001-09-10")
+    pages = year_of(place, place / "fleet/a/web-1")
+    log = log_of(place, f"machine,time\nweb-2,{NOON}Z\n")
+    dossier("events", "--split", place / "answer", log, place / "other/web-2/2001-09-09")
+    for named in "other", "other/web-2":
+        for name in "", "pages.sums", "claim.json":
+            if name:
+                (place / named / name).touch()
+            out = dossier("verify", "--known", pages, place / "answer", "fleet", named, cwd=place)[1].decode()
+            check(f"{named} with {name or 'days alone'}", lines=(out.count(": verified: refuted"), 1), said=(
+                f"{named}: (folders of an answer to a log are in it)" in out, True))
+        for name in "pages.sums", "claim.json":
+            (place / named / name).unlink()
+
+
 def test_audit_of_a_machine(place: Path) -> None:
     """A machine that has an audit beside its days is a machine, and that isn't counted."""
     one, two = place / "fleet" / "web-1", place / "fleet" / "web-3"
