@@ -15,7 +15,7 @@ from ..folder.result import Below
 from ..folder.year import read_statements
 from ..text import listed
 from .events import folders_of
-from .machines import Machines, above_all, folders_above, folders_in, is_day, names_of, once, others_in
+from .machines import Machines, above_all, folders_above, folders_in, is_day, names_of, once, others_in, undermost
 from .signature import signed_in
 from .statements import DAYS, NOTHING, days_of
 
@@ -172,7 +172,7 @@ class Planning:
         of_years = {*years, *(name[:4] if is_day(name) else "" for name in beside)}
         own = above_all(days + others)
         machines = Machines(own, names_of(own), above_all(own), above_all(days).union(apart),
-                            resting=above_all(resting.keys() & days),
+                            resting=undermost(above_all(resting.keys() & days)),
                             years=frozenset(() if "" in of_years else of_years))
         unsigned = {day for day in self.named & self.answered
                     if not asked(day, lambda folder: folder.has(files.SIGNATURE), False)}

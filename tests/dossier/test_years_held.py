@@ -746,6 +746,33 @@ def test_namesakes_beside(place: Path) -> None:
             check(f"{folder.name} beside {within}", status=(told[0], status), said=(words in line, bool(status)))
 
 
+def test_namesakes_below_a_day(place: Path) -> None:
+    """A day beside machines on which a year or an answer rests too ends no search for namesakes of these."""
+    if not is_here("ssh-keygen", "a fleet that signs"):
+        return
+    signers, fleet = signers_of(place, "ann", "web-1"), place / "fleet"
+    folders = [day(fleet / site / "web-1", k, RIGHT) for k, site in enumerate(("a", "b"))]
+    dossier("audit", *folders, env={**ENVIRONMENT, "XDG_STATE_HOME": str(place / "own")})
+    for folder in folders:
+        sign(place, "web-1", folder / "audit.json")
+    among = ["--signers", signers]
+    for name in "monday", "2001-09-09":
+        env = {**ENVIRONMENT, "XDG_STATE_HOME": str(place / f"state-{name}")}
+        dossier("audit", beside := day(fleet, 2, RIGHT, name=name, drift_ppb=1), env=env)
+        pages, answer = year_of(place, *among, fleet / "a" / "web-1", beside, env=env), place / "answer"
+        sign(place, "ann", beside / "audit.json")
+        log = log_of(place, f"machine,time\nweb-1,{NOON}Z\nfleet,2001-09-11T12:00:00Z\n")
+        dossier("events", *among, "--split", answer, log, fleet / "a" / "web-1", beside, env=env)
+        for folder, file in (pages, "year.json"), (answer, "events.json"):
+            sign(place, "ann", folder / file)
+            for named, status in rows(([fleet / "a"], 0), ([fleet / "a", fleet / "b"], 1)):
+                told = dossier("verify", "--as-signed", "--known", *among, folder, *named, beside, env=env)
+                check(f"{folder.name} beside {name} in {len(named)} folders", status=(told[0], status), said=(
+                    "more than one machine is called web-1" in told[1].decode(), bool(status)))
+            shutil.rmtree(folder)
+        shutil.rmtree(beside)
+
+
 def test_signatures_of_days(place: Path) -> None:
     """A signature that doesn't fit, or by another machine's key, isn't as it was signed, though a year rests on that
     day."""
