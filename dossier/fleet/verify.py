@@ -240,7 +240,7 @@ def verify_all(folders: list[str], verifier: Verifier, signers: Signers, seconds
     looked_at = [path for path in plan.every if path not in call.left]
     for path, came in run_all(looked_at, call.verify, Compared, seconds):
         result = Compared(came.status, [came.line]) if isinstance(came, Refusal) else came
-        if how.answers and result.sum and result.is_same:
+        if how.answers and result.sum:  # (its answers are right, whoever signed it)
             known.believed.add(bytes.fromhex(result.sum))
         twins = seen.twins(path, result.claims, result.captures)
         told.tell(path, result, [f"({words})" for words in twins], plan.stated)
@@ -342,7 +342,7 @@ class Verifying:
         except Fault as error:
             return Compared(error.status, [error.line, *unsigned, *(f"({note})" for note in notes)])
         found = replace(found, lines=[*found.lines, *unsigned, *(f"({note})" for note in [*notes, *others])])
-        return replace(found, status=NOT_SHOWN, is_same=False, sum="") if unsigned else found
+        return replace(found, status=NOT_SHOWN, is_same=False) if unsigned else found
 
     def of_signature(self, folder: Folder, signed: str) -> tuple[list[str], list[str]]:
         """What is wrong with a folder's signature, and what is worth a note of it. With a file of those who may sign

@@ -8,7 +8,7 @@ from typing import Any
 from unittest import mock
 
 from tests.support import ROOT, check, is_here, run, sum_of
-from tests.dossier.audits import ENVIRONMENT, called, dossier, rows
+from tests.dossier.audits import ENVIRONMENT, STATE, called, dossier, rows
 from tests.dossier.test_events import NOON, log_of
 from tests.dossier.test_evidence import key_of
 from tests.dossier.test_years import RIGHT, WIDE, day
@@ -792,8 +792,9 @@ def test_signatures_of_days(place: Path) -> None:
             shutil.copy(pages / "year.json.sig", signature)
         is_bad = key in ("web-2", "")
         for folder in pages, answer:
-            for way in "--known", "--answers":
-                status, out, _ = dossier("verify", way, "--as-signed", "--signers", signers, folder, fleet)
+            for way, state in ("--known", STATE), ("--answers", place / f"{folder.name}-{key}"):
+                status, out, _ = dossier("verify", way, "--as-signed", "--signers", signers, folder, fleet, env={
+                    **ENVIRONMENT, "XDG_STATE_HOME": str(state)})
                 check(f"{folder.name} with a day by {key or 'no key'} {way}", status=(status, int(is_bad)), said=(
                     words in out.decode(), True), last=(
                     f"not as it was signed: {own};" in out.decode().splitlines()[-1], is_bad))
