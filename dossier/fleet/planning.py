@@ -15,7 +15,8 @@ from ..folder.result import Below
 from ..folder.year import read_statements
 from ..text import listed
 from .events import folders_of
-from .machines import Machines, above_all, folders_above, folders_in, is_day, names_of, once, others_in, undermost
+from .machines import (Machines, above_all, folders_above, folders_in, has_days, is_day, names_of, once, others_in,
+                       undermost)
 from .signature import signed_in
 from .statements import DAYS, NOTHING, days_of
 
@@ -88,7 +89,8 @@ class Planning:
             for path in named & folders_above(machine):
                 self.within.setdefault(path, []).append(machine)
         apart = [folder for folder in folders if folder not in resting] if resting else []
-        self.bare = those_among(apart, lambda folder: kind_of(folder) == BARE, seconds, or_unknown=False)
+        self.bare = those_among(apart, lambda folder: (kind := kind_of(folder)) == BARE or
+                                kind == LOOSE and has_days(folder.path), seconds, or_unknown=False)
 
     def taken(self, results: Iterator[tuple[str, T | Refusal]]) -> Iterator[tuple[str, T]]:
         """What came of folders, but for those that are refused, which are told as that."""

@@ -287,6 +287,10 @@ def test_days_beside_pages(place: Path) -> None:
             out = dossier("verify", "--known", pages, place / "answer", "fleet", named, cwd=place)[1].decode()
             check(f"{named} with {name or 'days alone'}", lines=(out.count(": verified: refuted"), 1), said=(
                 f"{named}: (folders of an answer to a log are in it)" in out, True))
+            named_by_itself = dossier("verify", "--known", pages, "fleet", named, cwd=place)[1].decode()
+            check(f"{named} with {name or 'days alone'}, of no answer", is_none=(
+                f"{named}: (no year or answer that is named rests on what is in it)" in named_by_itself,
+                not name or named == "other/web-2"))
         for name in "pages.sums", "claim.json":
             (place / named / name).unlink()
 
