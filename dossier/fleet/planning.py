@@ -77,9 +77,10 @@ class Planning:
                                         seconds)))
         self.answers = {folder: below.days for folder, below in found.items() if below.is_of_events}
         self.answered = {absolute(day) for days in self.answers.values() for day in days}
-        self.stated = {day: name for folder, below in found.items() if folder not in self.answers
-                       for day, name in below.days.items()}
-        self.spelled = {absolute(day): day for day in self.stated}
+        self.stated, self.spelled = dict[str, str](), dict[str, str]()  # (each day as it is spelled first)
+        for day, name in (one for folder, below in found.items() if folder not in self.answers
+                          for one in below.days.items()):
+            self.stated[self.spelled.setdefault(absolute(day), day)] = name
         self.rests = {*self.spelled, *self.answered,
                       *(absolute(day) for below in found.values() for day in below.without_audit)}
         self.spans = [below.span for below in found.values() if below.span[0]]

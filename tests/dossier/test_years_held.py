@@ -270,6 +270,18 @@ def test_days_beside(place: Path) -> None:
         shutil.rmtree(place / "fleet")
 
 
+def test_two_spellings(place: Path) -> None:
+    """Days of two years are one, though one of these is named by an absolute path and the other isn't."""
+    machine = place / "fleet" / "web-1"
+    dossier("audit", *(day(machine, number, RIGHT) for number in range(2)))
+    year_of(place, machine).rename(place / "one")
+    year_of(place, machine).rename(place / "two")
+    for one, two in ("one", place / "two"), (place / "one", "two"):
+        out = dossier("verify", "--sample", 1, "--seed", "x", one, two, "fleet", cwd=place)[1].decode()
+        check(f"{one} and {two}", said=("(1 of 2 days were drawn and made again:" in out, True), copies=(
+            "were made again too" in out, False))
+
+
 def test_days_beside_pages(place: Path) -> None:
     """Pages, or a claim, in a folder with days on which an answer rests hide none of its other days from a year."""
     good, bad = day(place / "days", 0, RIGHT), day(place / "days", 1, WIDE, drift_ppb=1)
