@@ -194,6 +194,23 @@ def test_machine_within(place: Path) -> None:
         check(f"{folder.name}, named by itself", said=(f"{folder}: verified: " in out.decode(), True))
 
 
+def test_days_above_all(place: Path) -> None:
+    """A folder that is called after a day, above a year and its machines, is no reason not to sign that."""
+    if not is_here("ssh-keygen", "a year that is signed"):
+        return
+    within = place / "x"
+    key_of(place, "ann")
+    dossier("audit", own := day(within / "fleet" / "web-1", 0, RIGHT))
+    (place / "2020-01-01").mkdir()
+    for folder in year_of(within, own.parent), answer_of(within, own.parent):
+        check(f"sign {folder.name}", status=(dossier("sign", "--key", place / "ann", folder)[0], 0))
+    (place / "x" / "fleet" / "2020-01-01").mkdir()
+    for folder in year_of(place, own.parent), answer_of(place, own.parent):
+        status, out, _ = dossier("sign", "--key", place / "ann", folder)
+        check(f"sign {folder.name} of a fleet with days", status=(status, lambda status: status > 0), said=(
+            "a folder that has days of its own" in out.decode(), True))
+
+
 def test_lines_without_says(place: Path) -> None:
     """Each line of days has the sum of what an audit says, or the year is older than sums of pages."""
     own = place / "fleet" / "web-1"
