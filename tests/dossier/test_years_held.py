@@ -1000,7 +1000,7 @@ def test_pages_among_machines(place: Path) -> None:
 
 
 def test_signatures_beside_a_sample(place: Path) -> None:
-    """The signatures of days on which something rests are looked at though the days aren't drawn."""
+    """The signatures of days are looked at though the days aren't drawn, whether something rests on them or not."""
     if not is_here("ssh-keygen", "a fleet that signs"):
         return
     signers, fleet = signers_of(place, "ann", "web-1", "web-2"), place / "fleet"
@@ -1020,6 +1020,24 @@ def test_signatures_beside_a_sample(place: Path) -> None:
             status, out, _ = dossier(*drawn, "--signers", signers, folder, fleet)
             check(f"{folder.name} with days by {key or 'no key'}", status=(status, int(bool(words))), number=(
                 out.decode().count(words) if words else 0, len(folders) if words else 0))
+    asked = "verify", "--sample", 1, "--seed", "x", "--as-signed", "--signers"
+    for key, words in (("web-1", ""), ("ann", ""), ("web-2", OWN), ("", "the signature doesn't fit"),
+                       ("mallory", "with a key that may not sign"), ("none", "nobody signed it")):
+        key_of(place, "mallory")
+        for folder in folders:
+            sign(place, key if key not in ("", "none") else "ann", folder / ("audit.json" if key else "claim.json"))
+            if not key:
+                (folder / "claim.json.sig").rename(folder / "audit.json.sig")
+            elif key == "none":
+                (folder / "audit.json.sig").unlink()
+        status, out, _ = dossier(*asked, signers, *folders)
+        check(f"days of no year by {key or 'no key'}", status=(status, int(bool(words))), number=(
+            out.decode().count(words) if words else 0, len(folders) if words else 0))
+    shutil.copytree(fleet / "web-1", other := place / "other" / "web-1")
+    for folder in [*folders, *other.iterdir()]:
+        sign(place, "web-1", folder / "audit.json")
+    out = dossier(*asked, signers, *folders, *other.iterdir())[1]
+    check("days of namesakes", number=(out.count(b"more than one machine is called web-1"), 2 * len(folders)))
 
 
 def test_words_of_audits(place: Path) -> None:
