@@ -429,10 +429,12 @@ def run_on_folders(given: argparse.Namespace, folders: list[str]) -> int:
 
 
 def tidy(folder: str) -> str:
-    """A folder's path without slashes at its end."""
+    """A folder's path without slashes at its end, or dots after these: it ends with the folder's name."""
     if not folder:
         raise fault("an operand is empty", USAGE)
-    return folder.rstrip("/") or "/"
+    while folder != (shorter := folder.removesuffix("/.").rstrip("/")):
+        folder = shorter
+    return folder or "/"
 
 
 def correction_of(given: argparse.Namespace) -> "Correction | None":

@@ -155,6 +155,11 @@ def above_all(paths: Iterable[str]) -> frozenset[str]:
     return frozenset(os.path.dirname(absolute(path)) for path in paths)
 
 
+def undermost(machines: frozenset[str]) -> frozenset[str]:
+    """Those of machines in whose folders no others of them are: of these nothing is another machine's."""
+    return machines.difference(*(folders_above(os.path.dirname(machine)) for machine in machines))
+
+
 def names_of(paths: Iterable[str]) -> frozenset[str]:
     """The last names of folders."""
     return frozenset(os.path.basename(path) for path in paths)

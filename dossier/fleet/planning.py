@@ -2,7 +2,7 @@
 rest, and all days beside these.
 """
 import os
-from collections.abc import Callable, Iterator
+from collections.abc import Callable, Iterable, Iterator
 from contextlib import suppress
 from typing import NamedTuple
 
@@ -15,7 +15,8 @@ from ..folder.result import Below
 from ..folder.year import read_statements
 from ..text import listed
 from .events import folders_of
-from .machines import Machines, above_all, folders_above, folders_in, is_day, names_of, once, others_in
+from .machines import (Machines, above_all, folders_above, folders_in, has_days, is_day, names_of, once, others_in,
+                       undermost)
 from .signature import signed_in
 from .statements import DAYS, NOTHING, days_of
 
@@ -76,9 +77,10 @@ class Planning:
                                         seconds)))
         self.answers = {folder: below.days for folder, below in found.items() if below.is_of_events}
         self.answered = {absolute(day) for days in self.answers.values() for day in days}
-        self.stated = {day: name for folder, below in found.items() if folder not in self.answers
-                       for day, name in below.days.items()}
-        self.spelled = {absolute(day): day for day in self.stated}
+        self.stated, self.spelled = dict[str, str](), dict[str, str]()  # (each day as it is spelled first)
+        for day, name in (one for folder, below in found.items() if folder not in self.answers
+                          for one in below.days.items()):
+            self.stated[self.spelled.setdefault(absolute(day), day)] = name
         self.rests = {*self.spelled, *self.answered,
                       *(absolute(day) for below in found.values() for day in below.without_audit)}
         self.spans = [below.span for below in found.values() if below.span[0]]
@@ -88,7 +90,8 @@ class Planning:
             for path in named & folders_above(machine):
                 self.within.setdefault(path, []).append(machine)
         apart = [folder for folder in folders if folder not in resting] if resting else []
-        self.bare = those_among(apart, lambda folder: kind_of(folder) == BARE, seconds, or_unknown=False)
+        self.bare = those_among(apart, lambda folder: (kind := kind_of(folder)) == BARE or
+                                kind == LOOSE and has_days(folder.path), seconds, or_unknown=False)
 
     def taken(self, results: Iterator[tuple[str, T | Refusal]]) -> Iterator[tuple[str, T]]:
         """What came of folders, but for those that are refused, which are told as that."""
@@ -128,10 +131,10 @@ class Planning:
                 said[folder] = "no year or answer that is named rests on what is in it"
         return said
 
-    def look_beside(self) -> list[str]:
+    def look_beside(self, holds: Iterable[str]) -> list[str]:
         """Puts the days that stand beside a year's before the folder in which they are, and gives those of another
-        time, which aren't looked at. (From a year days of a bare folder may have been left out.)"""
-        within = dict.fromkeys(map(absolute, self.bare if self.spans else ()), list[str]()) | self.within
+        time, which aren't looked at. (From a year days of a folder that holds days alone may have been left out.)"""
+        within = dict.fromkeys(map(absolute, {*self.bare, *holds} if self.spans else ()), list[str]()) | self.within
         seen, others = self.named | self.rests, list[str]()
 
         def work(path: str, _: int) -> list[str]:
@@ -149,21 +152,30 @@ class Planning:
         name = os.path.basename(path)
         return not is_day(name) or any(name[:4] == year and name < made for year, made in self.spans)
 
+    def days_among(self, every: list[str], holds: dict[str, str]) -> tuple[list[str], list[str]]:
+        """The days among all that are looked at: on which a year rests, called after one, or audited; and the absolute
+        paths of those that may be their machines too, since nothing rests on them, and they aren't called so."""
+        rest = [path for path in every if path not in self.stated and not is_day(os.path.basename(path))
+                and path not in holds and path not in self.answers]
+        audited = those_among(rest, may_be_day, self.seconds, or_unknown=False)
+        return [path for path in every if path in self.stated or is_day(os.path.basename(path))
+                or path in audited], [absolute(path) for path in rest if path in audited]
+
     def plan(self) -> Plan:
         """The plan. Of a day that is named, though an answer rests on it, the signature has to be good, if it has one.
         """
-        holds, others = self.holding(), self.look_beside()
+        others = self.look_beside(holds := self.holding())
         every = once([self.spelled.get(absolute(path), path) for folder in self.folders
                       for path in (*self.before.get(folder, ()), folder) if path not in self.answers])
         every += self.answers
-        days = [path for path in every if path in self.stated or is_day(os.path.basename(path))]
+        days, apart = self.days_among(every, holds)
         resting = {path: day for path in every if (day := absolute(path)) in self.rests}
         years = [year for year, _ in self.spans]
         beside = names_of({*days, *resting} - self.stated.keys())
         of_years = {*years, *(name[:4] if is_day(name) else "" for name in beside)}
         own = above_all(days + others)
-        machines = Machines(own, names_of(own), above_all(own), above_all(days),
-                            resting=above_all(resting.keys() & days),
+        machines = Machines(own, names_of(own), above_all(own), above_all(days).union(apart),
+                            resting=undermost(above_all(resting.keys() & days)),
                             years=frozenset(() if "" in of_years else of_years))
         unsigned = {day for day in self.named & self.answered
                     if not asked(day, lambda folder: folder.has(files.SIGNATURE), False)}
@@ -185,9 +197,18 @@ def those_among(paths: list[str], is_one: Callable[[Folder], bool], seconds: int
 
 def days_beside(path: str, machines: list[str], rests: set[str]) -> list[str]:
     """The folders of all days in a folder, in those in it, in those of machines below it, and in those beside these;
-    and the folders among these that can't be looked into. In one on which a year rests parts of its audit are none."""
-    places, days = [path, *folders_in(path, are_days=False), *machines], list[str]()
-    for place in {os.path.dirname(machine) or "." for machine in machines}:
+    and the folders among these that can't be looked into. In one on which a year rests parts of its audit are none. In
+    those of machines each with an audit is one; and those that have one are, two folders down, but in a machine's."""
+    below, own = folders_in(path, are_days=False), rests.union(map(absolute, machines))
+    places, days = [path, *below, *machines], list[str]()
+    for place in (other for folder in below if absolute(folder) not in own for other in others_in(folder)):
+        with suppress(Fault):
+            days += [day for day in folders_in(place, are_days=True) if asked(day, may_be_day, True)]
+        is_few(days)
+    for machine in machines:
+        days += [day for day in others_in(machine) if asked(day, may_be_day, True)]
+        is_few(days)
+    for place in {os.path.normpath(os.path.join(machine, "..")) for machine in machines}:
         if absolute(path) in folders_above(place):
             places += [place, *others_in(place)]
         is_few(places)
@@ -209,6 +230,11 @@ def is_few(days: list[str]) -> None:
 
 def is_there(path: str) -> bool:
     return asked(path, lambda _: True, False)
+
+
+def may_be_day(folder: Folder) -> bool:
+    """Whether an audit is in a folder, or the signature of one."""
+    return folder.has(files.AUDIT) or folder.has(files.SIGNATURE)
 
 
 def may_be_signed(path: str) -> bool:

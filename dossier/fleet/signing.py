@@ -6,13 +6,14 @@ from typing import IO, NamedTuple
 
 from ..fault import DEVICE, NOT_SHOWN, USAGE, Fault, fault, summed
 from ..folder.entry import DISPUTED, LeapList, Refusal, read_record, record_text, refusal_by
-from ..folder.events import Asked
-from ..folder.files import AUDIT, EVENTS, SIGNATURE, SIGNATURES, Folder, own_data, sum_of
+from ..folder.events import Asked, read_events
+from ..folder.files import AUDIT, EVENTS, SIGNATURE, SIGNATURES, YEAR, Folder, absolute, own_data, sum_of
 from ..folder.jobs import DEVNULL, ENVIRONMENT, PIPE, SECONDS, begun, find_tool, private_folder, run_all, run_one
 from ..folder.placing import is_ones_own, keep, place
 from ..folder.program import find_program
 from ..folder.registry import Known
 from ..folder.result import Said, Written
+from ..folder.year import read_statements
 from ..premise.leap import record_by
 from ..records import replace
 from ..schema import json_text
@@ -20,9 +21,9 @@ from ..text import label, plain
 from ..units import now
 from ..verdict.making import sizes_of
 from .audit import change_of
-from .events import EventsCall, PageOfEvents, compared as answer_compared, folders_of
+from .events import EventsCall, PageOfEvents, compared as answer_compared, folders_of, machine_at
 from .signature import NAMESPACE, NO_KEYGEN, READERS, Signers, signed_in
-from .statements import BY_ANOTHER, compared
+from .statements import BY_ANOTHER, compared, lines_in, machine_in
 from .verify import known_in
 
 OF_A_PERSON = ("HOME", "TERM", "DISPLAY", "WAYLAND_DISPLAY", "XDG_RUNTIME_DIR", "SSH_AUTH_SOCK", "SSH_ASKPASS",
@@ -89,13 +90,22 @@ def to_be_signed(call: SignCall, path: str, _: int) -> Written:
 def difference_of_days(call: SignCall, folder: Folder) -> str:
     """What of a year's statements, or of an answer to a log, doesn't follow from what is known here of its days;
     nothing if all does. Whoever signs names his own program."""
-    if signed_in(folder) != EVENTS:
-        found = compared(folder, call.known, call.leaps, call.signers)
+    signed = signed_in(folder)
+    if signed != EVENTS:
+        found = compared(folder, call.known, call.leaps, call.signers, around(folder, signed))
         return found.difference or next((note for note in found.notes if note.startswith(BY_ANOTHER)), "")
-    folders_of(folder, {"/"})
+    folders_of(folder, around(folder, signed))
     answer = answer_compared(folder, EventsCall(Asked(), call.known, call.leaps, find_program(), SECONDS,
                                                 page=call.page, signers=call.signers))
     return answer.difference or answer.by_another
+
+
+def around(folder: Folder, signed: str) -> set[str]:
+    """The folder in which all machines of a year or an answer are, and that itself: what is above says nothing."""
+    machines = [machine_in(stated, lines) for stated in read_statements(folder.data(YEAR)).machines
+                if (lines := lines_in(folder, stated))] if signed == YEAR else \
+        [machine_at(folder, resting).path for resting in read_events(folder.data(EVENTS)).machines]
+    return {os.path.commonpath([absolute(folder.path), *(os.path.dirname(absolute(path)) for path in machines)])}
 
 
 def sign(call: SignCall, signed: bytes, signature: bytes, path: str, _: int) -> Said:

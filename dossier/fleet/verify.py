@@ -240,7 +240,7 @@ def verify_all(folders: list[str], verifier: Verifier, signers: Signers, seconds
     looked_at = [path for path in plan.every if path not in call.left]
     for path, came in run_all(looked_at, call.verify, Compared, seconds):
         result = Compared(came.status, [came.line]) if isinstance(came, Refusal) else came
-        if how.answers and result.sum and result.is_same:
+        if how.answers and result.sum:  # (its answers are right, whoever signed it)
             known.believed.add(bytes.fromhex(result.sum))
         twins = seen.twins(path, result.claims, result.captures)
         told.tell(path, result, [f"({words})" for words in twins], plan.stated)
@@ -313,19 +313,25 @@ class Verifying:
         self.sample = Sample() if how.sample is None else sample_of(plan, self.named, how.sample, how.seed, seconds)
         self.known.believes = how.sample is not None and not how.answers
         self.left = set[str]() if how.answers else self.sample.left
-        signed = signers.look_at([path for path in plan.every if path not in self.left or path in plan.stated
-                                  or path in plan.resting], seconds)
+        beside = self.left & self.sample.beside
+        signed = signers.look_at([path for path in plan.every if path not in beside], seconds)
         below, unseen = machines_below(folders, plan.machines, seconds) if signers.given is not None else ({}, {})
         self.refused, self.machines = unseen | plan.refused, plan.machines.among(below)
         self.left = self.left - self.wrongly_signed(signed, seconds)
 
     def wrongly_signed(self, signed: dict[str, str], seconds: int) -> set[str]:
-        """The days that aren't drawn, on which something rests, and of which the signature doesn't fit, or is another
-        machine's: these are looked at too."""
+        """The days that aren't drawn of which the signature doesn't fit, or is another machine's, or, since nothing
+        rests on them, isn't one that counts: these are looked at too."""
+        own = self.left - self.sample.beside - self.plan.resting if self.signers.given is not None else set[str]()
         signed = {path: signer for path, signer in signed.items() if path in self.left}
-        others = [day for day, signer in signed.items() if signer not in ("", os.path.basename(os.path.dirname(day)))]
-        wrong = those_among(others, lambda day: self.not_its_own(day, signed[day.path]) == OWN_DAYS, seconds)
-        return wrong | {path for path, signer in signed.items() if not signer}
+        others = [day for day, signer in signed.items()
+                  if signer and (day in own or signer != os.path.basename(os.path.dirname(day)))]
+
+        def is_wrong(day: Folder) -> bool:
+            why = self.not_its_own(day, signed[day.path])
+            return bool(why) and (day.path in own or why == OWN_DAYS)
+        wrong = those_among(others, is_wrong, seconds)
+        return wrong | {path for path, signer in signed.items() if not signer} | own.difference(signed)
 
     def verify(self, path: str, _: int) -> Compared:
         """What verifying a folder comes to."""
@@ -342,7 +348,7 @@ class Verifying:
         except Fault as error:
             return Compared(error.status, [error.line, *unsigned, *(f"({note})" for note in notes)])
         found = replace(found, lines=[*found.lines, *unsigned, *(f"({note})" for note in [*notes, *others])])
-        return replace(found, status=NOT_SHOWN, is_same=False, sum="") if unsigned else found
+        return replace(found, status=NOT_SHOWN, is_same=False) if unsigned else found
 
     def of_signature(self, folder: Folder, signed: str) -> tuple[list[str], list[str]]:
         """What is wrong with a folder's signature, and what is worth a note of it. With a file of those who may sign

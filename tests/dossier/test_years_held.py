@@ -8,10 +8,10 @@ from typing import Any
 from unittest import mock
 
 from tests.support import ROOT, check, is_here, run, sum_of
-from tests.dossier.audits import ENVIRONMENT, called, dossier, rows
+from tests.dossier.audits import ENVIRONMENT, STATE, called, dossier, rows
 from tests.dossier.test_events import NOON, log_of
 from tests.dossier.test_evidence import key_of
-from tests.dossier.test_years import RIGHT, day
+from tests.dossier.test_years import RIGHT, WIDE, day
 
 from dossier import units
 from dossier.fault import Fault
@@ -107,6 +107,39 @@ def test_keys_of_machines(place: Path) -> None:
               said=(told[1].decode().count(OWN), int(is_others)))
 
 
+def test_keys_of_named_days(place: Path) -> None:
+    """A day that is named is its machine's, whatever its folder is called, and however that is spelled."""
+    if not is_here("ssh-keygen", "a fleet that signs"):
+        return
+    signers, one, two = signers_of(place, "web-1", "web-2"), *(day(place / "days", k, RIGHT) for k in (0, 1))
+    dossier("audit", one, two)
+    words = "more than one machine is called web-1"
+    for names, key, said in rows(
+            (("k/a/web-1/monday", "k/b/web-2/monday"), "web-2", OWN),
+            (("k/a/web-1/2001-09-09/.", "k/b/web-2/2001-09-10/."), "web-2", OWN),
+            (("k/a/web-1/2001-09-09", "k/b/web-2/2001-09-10//./"), "web-2", OWN),
+            (("x/a/web-1/monday", "x/b/web-1/monday"), "web-1", words),
+            (("x/paris/web-1/2001-09-09/.", "x/london/web-1/2001-09-09/."), "web-1", words),
+            (("x/paris/web-1/monday/x/..", "x/london/web-1/monday/x/.."), "web-1", words),
+            (("m/paris/web-1", "m/london/web-1"), "web-1", words),
+            (("m/paris/web-1", "m/london/web-2"), "", "")):
+        for name, folder in zip(names, (one, two)):
+            shutil.copytree(folder, place / name.removesuffix("/x/.."))
+            (place / name.removesuffix("..")).mkdir(exist_ok=True)
+            sign(place, key or os.path.basename(name), place / name / "audit.json")
+        status, out, _ = dossier("verify", "--known", "--as-signed", "--signers", signers, *(
+            f"{place}/{name}" for name in names))
+        check(f"{' and '.join(names)} by {key or 'their keys'}", status=(status, int(bool(said))), said=(
+            said in out.decode(), True))
+        shutil.rmtree(place / names[0].partition("/")[0])
+    log = log_of(place, f"machine,time\ndays,{NOON}Z\n")
+    for end in "", "/", "/.", "/.//./":
+        check(f"an answer by a day and {end}", status=(dossier("events", log, f"{one}{end}")[0], 0))
+        year_of(place, f"{one}{end}")
+        check(f"a year by a day and {end}", is_there=((place / "pages" / f"{called(one.parent)}.days").exists(), True))
+        shutil.rmtree(place / "pages")
+
+
 def test_keys_of_two_levels(place: Path) -> None:
     """A machine's key signs its own days alone, in a fleet of sites too; that of a site signs what is of its machines.
     """
@@ -141,7 +174,7 @@ def test_namesakes_of_two_years(place: Path) -> None:
     words = "more than one machine is called web-1, so nobody knows whose key that is"
     for named, within in (years[:1], "fleet"), (years[1:], "fleet"), (years, "fleet"), (years[:1], "fleet/paris"):
         status, out, _ = dossier("verify", "--as-signed", "--signers", signers, *named, place / within)
-        number = len(named) if within == "fleet" else 0
+        number = 2 * (within == "fleet")  # (beside one year the other's day is looked at)
         check(f"{len(named)} years of machines of one name in {within}", status=(status, int(number > 0)),
               said=(out.decode().count(words), number))
 
@@ -159,6 +192,23 @@ def test_machine_within(place: Path) -> None:
                   said=(words in out.decode(), True))
         out = dossier("verify", "--known", folder, within.parent)[1]
         check(f"{folder.name}, named by itself", said=(f"{folder}: verified: " in out.decode(), True))
+
+
+def test_days_above_all(place: Path) -> None:
+    """A folder that is called after a day, above a year and its machines, is no reason not to sign that."""
+    if not is_here("ssh-keygen", "a year that is signed"):
+        return
+    within = place / "x"
+    key_of(place, "ann")
+    dossier("audit", own := day(within / "fleet" / "web-1", 0, RIGHT))
+    (place / "2020-01-01").mkdir()
+    for folder in year_of(within, own.parent), answer_of(within, own.parent):
+        check(f"sign {folder.name}", status=(dossier("sign", "--key", place / "ann", folder)[0], 0))
+    (place / "x" / "fleet" / "2020-01-01").mkdir()
+    for folder in year_of(place, own.parent), answer_of(place, own.parent):
+        status, out, _ = dossier("sign", "--key", place / "ann", folder)
+        check(f"sign {folder.name} of a fleet with days", status=(status, lambda status: status > 0), said=(
+            "a folder that has days of its own" in out.decode(), True))
 
 
 def test_lines_without_says(place: Path) -> None:
@@ -213,6 +263,65 @@ def test_left_out(place: Path) -> None:
         check(f"days beside a year, in {named}", said=(out.count("fleet/web-9/2001-09-10: verified: yes"), 1))
     out = dossier("verify", "--known", pages, own)[1].decode()
     check("days beside what is named", said=("web-9" in out, False))
+
+
+def test_days_beside(place: Path) -> None:
+    """A day beside a year that isn't of it is looked at, from wherever its folders are named."""
+    good, bad = day(place / "days", 0, RIGHT), day(place / "days", 1, WIDE, drift_ppb=1)
+    dossier("audit", good, bad)
+    for at, machine, named, beside in rows(
+            (".", "fleet/a/web-1", "fleet", "fleet/a/web-2/2001-09-09"),
+            (".", "fleet/a/web-1", "fleet", "fleet/a/web-1/monday"),
+            (".", "fleet/a/web-1", "fleet", "fleet/b/web-2/2001-09-09"),
+            (".", "fleet/web-1", "fleet", "fleet/b/web-2/2001-09-09"),
+            ("fleet/a/web-1", ".", "../..", "fleet/a/web-2/2001-09-09"),
+            ("fleet/a/web-1/x", "..", "../../..", "fleet/a/web-2/2001-09-09")):
+        (place / at).mkdir(parents=True, exist_ok=True)
+        shutil.copytree(good, os.path.normpath(place / at / machine / "2001-09-09"))
+        pages = year_of(place / at, machine, cwd=place / at)
+        shutil.copytree(bad, place / beside)
+        out = dossier("verify", "--known", "pages", named, cwd=place / at)[1].decode()
+        check(f"{beside} beside a year of {machine} in {at}", lines=(out.count(": verified: refuted"), 1), year=(
+            f"pages: {FOLLOWS}" in out, True))
+        shutil.rmtree(pages)
+        shutil.rmtree(place / "fleet")
+
+
+def test_two_spellings(place: Path) -> None:
+    """Days of two years are one, though one of these is named by an absolute path and the other isn't."""
+    machine = place / "fleet" / "web-1"
+    dossier("audit", *(day(machine, number, RIGHT) for number in range(2)))
+    year_of(place, machine).rename(place / "one")
+    year_of(place, machine).rename(place / "two")
+    for one, two in ("one", place / "two"), (place / "one", "two"):
+        out = dossier("verify", "--sample", 1, "--seed", "x", one, two, "fleet", cwd=place)[1].decode()
+        check(f"{one} and {two}", said=("(1 of 2 days were drawn and made again:" in out, True), copies=(
+            "were made again too" in out, False))
+
+
+def test_days_beside_pages(place: Path) -> None:
+    """Pages, or a claim, in a folder with days on which an answer rests hide none of its other days from a year."""
+    good, bad = day(place / "days", 0, RIGHT), day(place / "days", 1, WIDE, drift_ppb=1)
+    dossier("audit", good, bad)
+    for machine in "fleet/a/web-1", "other/web-2":
+        shutil.copytree(good, place / machine / "2001-09-09")
+    shutil.copytree(bad, place / "other/web-2/2001-09-10")
+    pages = year_of(place, place / "fleet/a/web-1")
+    log = log_of(place, f"machine,time\nweb-2,{NOON}Z\n")
+    dossier("events", "--split", place / "answer", log, place / "other/web-2/2001-09-09")
+    for named in "other", "other/web-2":
+        for name in "", "pages.sums", "claim.json":
+            if name:
+                (place / named / name).touch()
+            out = dossier("verify", "--known", pages, place / "answer", "fleet", named, cwd=place)[1].decode()
+            check(f"{named} with {name or 'days alone'}", lines=(out.count(": verified: refuted"), 1), said=(
+                f"{named}: (folders of an answer to a log are in it)" in out, True))
+            named_by_itself = dossier("verify", "--known", pages, "fleet", named, cwd=place)[1].decode()
+            check(f"{named} with {name or 'days alone'}, of no answer", is_none=(
+                f"{named}: (no year or answer that is named rests on what is in it)" in named_by_itself,
+                not name or named == "other/web-2"))
+        for name in "pages.sums", "claim.json":
+            (place / named / name).unlink()
 
 
 def test_audit_of_a_machine(place: Path) -> None:
@@ -670,6 +779,33 @@ def test_namesakes_beside(place: Path) -> None:
             check(f"{folder.name} beside {within}", status=(told[0], status), said=(words in line, bool(status)))
 
 
+def test_namesakes_below_a_day(place: Path) -> None:
+    """A day beside machines on which a year or an answer rests too ends no search for namesakes of these."""
+    if not is_here("ssh-keygen", "a fleet that signs"):
+        return
+    signers, fleet = signers_of(place, "ann", "web-1"), place / "fleet"
+    folders = [day(fleet / site / "web-1", k, RIGHT) for k, site in enumerate(("a", "b"))]
+    dossier("audit", *folders, env={**ENVIRONMENT, "XDG_STATE_HOME": str(place / "own")})
+    for folder in folders:
+        sign(place, "web-1", folder / "audit.json")
+    among = ["--signers", signers]
+    for name in "monday", "2001-09-09":
+        env = {**ENVIRONMENT, "XDG_STATE_HOME": str(place / f"state-{name}")}
+        dossier("audit", beside := day(fleet, 2, RIGHT, name=name, drift_ppb=1), env=env)
+        pages, answer = year_of(place, *among, fleet / "a" / "web-1", beside, env=env), place / "answer"
+        sign(place, "ann", beside / "audit.json")
+        log = log_of(place, f"machine,time\nweb-1,{NOON}Z\nfleet,2001-09-11T12:00:00Z\n")
+        dossier("events", *among, "--split", answer, log, fleet / "a" / "web-1", beside, env=env)
+        for folder, file in (pages, "year.json"), (answer, "events.json"):
+            sign(place, "ann", folder / file)
+            for named, status in rows(([fleet / "a"], 0), ([fleet / "a", fleet / "b"], 1)):
+                told = dossier("verify", "--as-signed", "--known", *among, folder, *named, beside, env=env)
+                check(f"{folder.name} beside {name} in {len(named)} folders", status=(told[0], status), said=(
+                    "more than one machine is called web-1" in told[1].decode(), bool(status)))
+            shutil.rmtree(folder)
+        shutil.rmtree(beside)
+
+
 def test_signatures_of_days(place: Path) -> None:
     """A signature that doesn't fit, or by another machine's key, isn't as it was signed, though a year rests on that
     day."""
@@ -689,8 +825,9 @@ def test_signatures_of_days(place: Path) -> None:
             shutil.copy(pages / "year.json.sig", signature)
         is_bad = key in ("web-2", "")
         for folder in pages, answer:
-            for way in "--known", "--answers":
-                status, out, _ = dossier("verify", way, "--as-signed", "--signers", signers, folder, fleet)
+            for way, state in ("--known", STATE), ("--answers", place / f"{folder.name}-{key}"):
+                status, out, _ = dossier("verify", way, "--as-signed", "--signers", signers, folder, fleet, env={
+                    **ENVIRONMENT, "XDG_STATE_HOME": str(state)})
                 check(f"{folder.name} with a day by {key or 'no key'} {way}", status=(status, int(is_bad)), said=(
                     words in out.decode(), True), last=(
                     f"not as it was signed: {own};" in out.decode().splitlines()[-1], is_bad))
@@ -863,7 +1000,7 @@ def test_pages_among_machines(place: Path) -> None:
 
 
 def test_signatures_beside_a_sample(place: Path) -> None:
-    """The signatures of days on which something rests are looked at though the days aren't drawn."""
+    """The signatures of days are looked at though the days aren't drawn, whether something rests on them or not."""
     if not is_here("ssh-keygen", "a fleet that signs"):
         return
     signers, fleet = signers_of(place, "ann", "web-1", "web-2"), place / "fleet"
@@ -883,6 +1020,24 @@ def test_signatures_beside_a_sample(place: Path) -> None:
             status, out, _ = dossier(*drawn, "--signers", signers, folder, fleet)
             check(f"{folder.name} with days by {key or 'no key'}", status=(status, int(bool(words))), number=(
                 out.decode().count(words) if words else 0, len(folders) if words else 0))
+    asked = "verify", "--sample", 1, "--seed", "x", "--as-signed", "--signers"
+    for key, words in (("web-1", ""), ("ann", ""), ("web-2", OWN), ("", "the signature doesn't fit"),
+                       ("mallory", "with a key that may not sign"), ("none", "nobody signed it")):
+        key_of(place, "mallory")
+        for folder in folders:
+            sign(place, key if key not in ("", "none") else "ann", folder / ("audit.json" if key else "claim.json"))
+            if not key:
+                (folder / "claim.json.sig").rename(folder / "audit.json.sig")
+            elif key == "none":
+                (folder / "audit.json.sig").unlink()
+        status, out, _ = dossier(*asked, signers, *folders)
+        check(f"days of no year by {key or 'no key'}", status=(status, int(bool(words))), number=(
+            out.decode().count(words) if words else 0, len(folders) if words else 0))
+    shutil.copytree(fleet / "web-1", other := place / "other" / "web-1")
+    for folder in [*folders, *other.iterdir()]:
+        sign(place, "web-1", folder / "audit.json")
+    out = dossier(*asked, signers, *folders, *other.iterdir())[1]
+    check("days of namesakes", number=(out.count(b"more than one machine is called web-1"), 2 * len(folders)))
 
 
 def test_words_of_audits(place: Path) -> None:
