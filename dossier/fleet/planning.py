@@ -198,7 +198,8 @@ def those_among(paths: list[str], is_one: Callable[[Folder], bool], seconds: int
 def days_beside(path: str, machines: list[str], rests: set[str]) -> list[str]:
     """The folders of all days in a folder, in those in it, in those of machines below it, and in those beside these;
     and the folders among these that can't be looked into. In one on which a year rests parts of its audit are none. In
-    those of machines each with an audit is one; and those that have one are, two folders down, but in a machine's."""
+    those of machines each that is signed is one (what isn't is a copy, or the like), and two folders down each day with
+    an audit, but in a machine's."""
     below, own = folders_in(path, are_days=False), rests.union(map(absolute, machines))
     places, days = [path, *below, *machines], list[str]()
     for place in (other for folder in below if absolute(folder) not in own for other in others_in(folder)):
@@ -206,7 +207,7 @@ def days_beside(path: str, machines: list[str], rests: set[str]) -> list[str]:
             days += [day for day in folders_in(place, are_days=True) if asked(day, may_be_day, True)]
         is_few(days)
     for machine in machines:
-        days += [day for day in others_in(machine) if asked(day, may_be_day, True)]
+        days += [day for day in others_in(machine) if asked(day, lambda folder: folder.has(files.SIGNATURE), False)]
         is_few(days)
     for place in {os.path.normpath(os.path.join(machine, "..")) for machine in machines}:
         if absolute(path) in folders_above(place):

@@ -269,6 +269,7 @@ def test_days_beside(place: Path) -> None:
     """A day beside a year that isn't of it is looked at, from wherever its folders are named."""
     good, bad = day(place / "days", 0, RIGHT), day(place / "days", 1, WIDE, drift_ppb=1)
     dossier("audit", good, bad)
+    (bad / "audit.json.sig").touch()
     for at, machine, named, beside in rows(
             (".", "fleet/a/web-1", "fleet", "fleet/a/web-2/2001-09-09"),
             (".", "fleet/a/web-1", "fleet", "fleet/a/web-1/monday"),
