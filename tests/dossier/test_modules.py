@@ -109,7 +109,9 @@ ONE = """class One:
     def own(self) -> int:
         return 1
 """
-OTHER = """class Other:
+OTHER = """from dossier.one import One
+
+class Other:
     def take(self) -> int:
         return 1
 
@@ -118,6 +120,9 @@ OTHER = """class Other:
 
 def of_any(one: One) -> int:
     return one.take()
+
+def of_other(other: Other) -> int:
+    return other.take()
 
 def handed(ones: list[One]) -> list[int]:
     return list(map(One.take, ones))
@@ -130,16 +135,25 @@ def lent() -> object:
         return 1
     return run(inner)
 """
+NAMESAKE = """class One:
+    def own(self) -> int:
+        return 1
+
+def of_namesake(one: One) -> int:
+    return one.own() + one.take()
+"""
 
 
 def test_methods() -> None:
-    """`docs/callers` tells no field, and no method of another class, as one that is called; but what is handed on."""
+    """`docs/callers` tells no field, and no method of another class, as one that is called; but what is handed on. A
+    call where another class has the same name may be one."""
     there = runpy.run_path(str(ROOT / "docs/callers"))
     python = there["PYTHON"]
-    one, other = every = [there["Source"](ROOT / f"dossier/{name}.py", text, text) for name, text in
-                          (("one", ONE), ("other", OTHER))]
-    for source, name, seen in ((one, "own", ["called by take"]), (other, "inner", ["handed on by lent"]),
-                               (one, "take", ["called by of_any", "called by handed"])):
+    one, other, _ = every = [there["Source"](ROOT / f"dossier/{name}.py", text, text) for name, text in
+                             (("one", ONE), ("other", OTHER), ("namesake", NAMESAKE))]
+    for source, name, seen in ((one, "own", ["called by take", "may be called by of_namesake"]),
+                               (other, "inner", ["handed on by lent"]),
+                               (one, "take", ["called by of_any", "called by handed", "may be called by of_namesake"])):
         item = next(item for item in there["items"](python, source) if item.name == name)
         said = [line.split(" in ")[0] for line in there["told"](python, item, every) if " by " in line]
         check(f"docs/callers: who calls {name}", said=(said, seen))

@@ -1,7 +1,7 @@
 -- The report of `at` by covers: of a reading the hull of the clock's error over the ticks for which
 -- the clock showed it, and when that was. The hull by covers is a relation, so the report is one on
 -- what was found.
-use Rattle.std.specs.Prelude.{◌≡◌, ◌==◌, ◌<◌, ◌&&◌, ℕ, ◌++◌, [], ◌∷◌, Bool, true, false, List, All, Option, None, Some, if◌then◌else◌, length, pos, slice_get}
+use Rattle.std.specs.Prelude.{◌≡◌, ◌==◌, ◌<◌, ◌&&◌, ℕ, ◌++◌, [], ◌∷◌, Bool, true, false, List, All, IfSome, Option, None, Some, if◌then◌else◌, length, pos, slice_get}
 use Rattle.audit.specs.Check.{GiveSecond}
 use Rattle.audit.specs.Common.{Course, Fits, HoldsErrorByCovers, Hull, IsHullByCovers, IsNearlyAttained, IsObservedIn, IsThen, Memory, ReadingData, Report, Style, Unbounded, Yes, parts_text, reading_heading, reading_line, reading_over, refused, rows_from, stretch_over, times_read, true_text, whole_text}
 use Rattle.audit.specs.Evidence.{EvidenceData, GiveEvidence, OfClaimAndCapture}
@@ -45,6 +45,10 @@ pub record IsHeldOver (e : EvidenceData) (found : HullOver) : Type 0 where
 -- Some hull of the reading is one.
 abbrev pub IsHeldAt : ReadingData → EvidenceData → Type 0
 IsHeldAt r e = (found : HullOver) × (is_of r found ≡ true) × IsHeldOver e found
+
+-- so it is with each hull of these that is there
+abbrev pub AreHeld : EvidenceData → List (Option HullOver) → Type 0
+AreHeld e hulls = All (λ found. IfSome found (IsHeldOver e)) hulls
 
 -- ---- one reading
 

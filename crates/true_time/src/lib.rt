@@ -26,6 +26,7 @@ mod reading_line;
 mod true_text;
 mod when;
 
+pub use found_hulls::numbers_in_order;
 pub use hull::parts_at;
 pub use order::{Order, order_of, order_of_one};
 pub use order_line::order_text;

@@ -9,7 +9,7 @@ ghost use Rattle.true_time.specs.FoundHulls.{AreHullsOf};
 ghost use Rattle.true_time.specs.ReadingLine as spec;
 ghost use Rattle.true_time.specs.ReadingLine.{reading_line};
 
-use crate::found_hulls::{hull_at, hulls_of};
+use crate::found_hulls::{SmallHull, hull_at, hulls_of};
 use crate::hull::tables_for;
 use audit_text::{hull_low, is_plain};
 use claim_file::Claim;
@@ -205,7 +205,7 @@ fn add_readings(
     style: Style,
     tables: &[BestTable],
     claim: &Claim,
-    hulls: &[Option<Hull>],
+    hulls: &[Option<SmallHull>],
     readings: &[Reading],
 ) -> Result<(), AllocError>
     requires tables { IsTabled (data_of claim.now) tables.now }
