@@ -33,7 +33,8 @@ pub use Rattle.feasibility.specs.DriftSettlement.{SettlesWithDrift}
 unfoldable pub use Rattle.era_unfold.specs.Nanoseconds.{ticks_down, ticks_up}
 unfoldable pub use Rattle.era_unfold.specs.Window.{window_high, window_low}
 pub use Rattle.finder.specs.Answer.{Finds}
-pub use Rattle.cover_finder.specs.Answer.{IsAnsweredAs}
+pub use Rattle.cover_finder.specs.Answer.{IsAnsweredAs, IsOpenForReason}
+pub use Rattle.cover_finder.specs.Open.{MayStayOpen}
 pub use Rattle.finder.specs.Settlement.{IsSettledAs}
 pub use Rattle.ntp_packet.specs.Header.{header_of}
 unfoldable pub use Rattle.ntp_packet.specs.Header.{root_distance_of}

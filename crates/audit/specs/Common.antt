@@ -55,6 +55,7 @@ unfoldable pub use Rattle.cover_checker.specs.VerdictTest.{verdict_of as cover_v
 pub use Rattle.cover_checker.specs.declared.verdict.CoverVerdict.{CoverVerdict}
 pub use Rattle.cover_finder.specs.Finder.{IsFinderFor}
 pub use Rattle.cover_finder.specs.Hull.{HoldsError as HoldsErrorByCovers, IsHullByCovers, IsNearlyAttained}
+pub use Rattle.cover_finder.specs.Open.{MayStayOpen}
 pub use Rattle.cover_finder.specs.Answer.{AnswerData, IsShownByCoversAlone, answer_data, of_finder, shown_by_covers}
 pub use Rattle.era_unfold.specs.Nanoseconds.{nanoseconds_per_second}
 pub use Rattle.era_unfold.specs.Ratio.{IsCeiling, IsFloor, ceiling_of, floor_of}

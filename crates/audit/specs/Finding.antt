@@ -1,6 +1,6 @@
 -- What a finding shows of the evidence, and of the bytes that give it.
 use Rattle.std.specs.Prelude.{◌≡◌, ◌⊎◌, ℕ, List, All, Result, Ok, Err, IfSome}
-use Rattle.audit.specs.Common.{FeedState, SettlesFit, HasTooManyPieces, AnswerData, FindFault, TooManyPieces}
+use Rattle.audit.specs.Common.{FeedState, SettlesFit, HasTooManyPieces, MayStayOpen, AnswerData, FindFault, TooManyPieces}
 use Rattle.finder.specs.declared.fault.FindFault.TheVariants.{Memory}
 use Rattle.audit.specs.ByCovers.{IsHeldOver}
 use Rattle.audit.specs.Evidence.{EvidenceData, GiveEvidence, OfClaimAndCapture}
@@ -10,10 +10,12 @@ use Rattle.audit.specs.Settle.{IsAnswerFrom, IsAnswerOf}
 
 -- ---- what it shows of evidence
 
--- what settles the claim; or a course fits, and there would be too many pieces
+-- what settles the claim; or a course fits, there would be too many pieces, and none by covers shows
+-- it for a reason
 abbrev pub IsSettlementOf : EvidenceData → Result AnswerData FindFault → Type 0
 IsSettlementOf e (Ok answer) = IsAnswerOf e answer
 IsSettlementOf e (Err TooManyPieces) = HasTooManyPieces e.claim e.collection.exchanges
+    × MayStayOpen e.claim e.collection.exchanges
 IsSettlementOf e (Err Memory) = Unit {0}
 
 pub record IsFindingOf (e : EvidenceData) (finding : Finding) : Type 0 where

@@ -1,8 +1,8 @@
 -- The report of `settle`, and what it shows: that the claim is shown, refuted, fitted by no course
 -- or without evidence, or that it stays open. Which certificate by covers, which refutation and
 -- which least bound are found has no definition of its own, so the report is one on what was found.
-use Rattle.std.specs.Prelude.{◌≡◌, ℕ, Bool, true, false, List, length, AllPairs, ◌++◌, codes, Option, Some, None, IsSome, is_some, unwrap_or, option_map, ◌&&◌, not, if◌then◌else◌, Result, Ok, Err}
-use Rattle.audit.specs.Common.{AnyData, of_pieces, by_covers, AnswerData, answer_data, of_finder, shown_by_covers, CoverCertificateData, IsShownByCoversAlone, covers_answer, covers_json, IsBytes, FeedState, CertificateData, refutation_text, certificate_text, SettledData, shown, refuted, fitted_by_none, no_evidence, left_open, IsFittedByNone, IsLeftOpen, IsShownBy, IsUnheard, LeastCarried, FindFault, SameRequest, Outcome, Yes, No, Report, refused, whole_text, Style, Plain, Human, evidence_answer, open_answer, refutation_answer, shown_answer, about_told, conflicts_text, evidence_text, open_text}
+use Rattle.std.specs.Prelude.{◌≡◌, ℕ, ℤ, Bool, true, false, List, length, AllPairs, ◌++◌, codes, Option, Some, None, IsSome, is_some, unwrap_or, option_map, ◌&&◌, not, if◌then◌else◌, Result, Ok, Err}
+use Rattle.audit.specs.Common.{AnyData, of_pieces, by_covers, AnswerData, answer_data, of_finder, shown_by_covers, CoverCertificateData, IsShownByCoversAlone, covers_answer, covers_json, IsBytes, FeedState, CertificateData, refutation_text, certificate_text, SettledData, shown, refuted, fitted_by_none, no_evidence, left_open, IsFittedByNone, Hull, IsLeftOpen, IsShownBy, IsUnheard, LeastCarried, MayStayOpen, FindFault, SameRequest, Outcome, Yes, No, Report, refused, whole_text, Style, Plain, Human, evidence_answer, open_answer, refutation_answer, shown_answer, about_told, conflicts_text, evidence_text, open_text}
 use Rattle.finder.specs.declared.fault.FindFault.TheVariants.{Memory}
 use Rattle.audit.specs.Check.{AreCoversTraced, ArePiecesTraced, HasVerdictYes, IsTracedTo, IsYesByCovers}
 use Rattle.audit.specs.Evidence.{EvidenceData, GiveEvidence, OfClaimAndCapture}
@@ -101,6 +101,12 @@ pub record IsShownOf (certificate : CertificateData) (e : EvidenceData) : Type 0
   pub shown_by : IsShownBy e.claim e.collection.exchanges certificate
   pub agree : AllPairs SameRequest e.collection.exchanges
 
+-- The claim stays open, and what keeps it open is rounding, or that covers or pieces are too many.
+pub record IsOpenOf (begin end : ℤ) (hull : Hull) (covers : ℕ) (most : Option ℤ)
+    (e : EvidenceData) : Type 0 where
+  pub left : IsLeftOpen e.claim e.collection.exchanges begin end hull covers most
+  pub reason : MayStayOpen e.claim e.collection.exchanges
+
 -- one of five answers: a refutation is one for which `refute --drift` says yes
 abbrev pub IsSettledOf : EvidenceData → SettledData → Type 0
 IsSettledOf e (shown certificate) = IsShownOf certificate e
@@ -109,7 +115,7 @@ IsSettledOf e (fitted_by_none conflicts) =
     IsFittedByNone e.claim e.collection.exchanges conflicts
 IsSettledOf e (no_evidence groups) = IsUnheard e.claim e.collection.exchanges groups
 IsSettledOf e (left_open begin end hull covers most) =
-    IsLeftOpen e.claim e.collection.exchanges begin end hull covers most
+    IsOpenOf begin end hull covers most e
 
 -- The certificate by covers shows the claim, and no certificate of pieces does: all that a yes of
 -- `check` says of it, and courses fit.

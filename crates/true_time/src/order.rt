@@ -208,6 +208,9 @@ fn order_by_readings(drift_ppb: u32, first: (u64, u64), second: (u64, u64), orde
 
 /// Which of two readings of one clock was first, if by when they were it is this one. A reading is
 /// given by the first tick for which it stands and the last; the drift is in parts of 10^9.
+///
+/// The ticks are those of readings as they are written, rounded outwards: where one ends a tick
+/// behind the other's first, the two only touch. So ticks that aren't have no such order.
 pub fn order_of_one(drift_ppb: u32, first: (u64, u64), second: (u64, u64), order: Order) -> Order
     requires rate { IsRate drift_ppb }
     requires short { IsShort order }

@@ -27,7 +27,8 @@ pub struct OrderAfter {
     pub second: AtReading,
 }
 
-/// Which of two readings of this clock was first?
+/// Which of two readings of this clock was first? Their ticks are those of readings as they are
+/// written.
 #[derive(Clone, Copy, Debug)]
 pub struct OrderWithin {
     /// The one that is named first.

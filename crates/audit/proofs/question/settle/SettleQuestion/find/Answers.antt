@@ -17,7 +17,7 @@ returns-in-Ok-least_if-clause-found c =
           c.requires.evidence.claim c.requires.evidence.exchanges.each accepted;
       named = c.covers_are_traceable.ensures.named e.claim e.collection.exchanges certificate
           c.requires.evidence.claim c.requires.evidence.exchanges.each accepted;
-    }) answer settles.answered in
+    }) answer settles.answered settles.stays_open in
     record { settled = holds; least = c.in-Ok-least_if.ensures.least; fits = tt; over = tt }
 
 pub returns-in-Err-clause-fault : goal.returns-in-Err-clause-fault
@@ -27,5 +27,10 @@ returns-in-Err-clause-fault c =
     let finding : Finding = record no_finding { settled = Err fault } in
     let settles = rw c.deref.ensures.value at c.in-Err.ensures in
     rw c.run_fault_of.ensures (unfound_as _ _ finding (λ style. settle_report style c.args.self.about.now finding e) _
-    fault (inr refl) (record { settled = fault_found e fault settles.refused; least = tt; fits = tt; over = tt })
+    fault (inr refl) (record {
+      settled = fault_found e fault settles.refused settles.too_many;
+      least = tt;
+      fits = tt;
+      over = tt;
+    })
     (λ style. refl) (λ style. refl))
