@@ -8,4 +8,5 @@ use Rattle.audit.proofs.question.readings_by_covers.put_hull.Goals as goal
 pub returns-then-number-readings : goal.returns-then-number-readings
 returns-then-number-readings c =
     let is_held = λ (found : Option HullOver). IfSome found (IsHeldOver (evidence_data c.args.evidence.now)) in
-    All-set is_held c.args.hulls.now c.args.number (Some c.hull_over.result) c.hull_over.ensures.held c.requires.hulls
+    let one = Some c.hull_over.result in
+    record { held = All-set is_held c.args.hulls.now c.args.number one c.hull_over.ensures.held c.requires.hulls }
