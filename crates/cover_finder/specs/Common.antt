@@ -8,7 +8,7 @@ pub use Rattle.cover_checker.specs.Acceptance.{IsAccepted}
 pub use Rattle.feasibility.specs.ConflictTable.{IsConflictTable}
 pub use Rattle.feasibility.specs.DriftSettlement.{SettlesWithDrift}
 pub use Rattle.feasibility.specs.ConflictsView.{data_of as conflicts_data}
-pub use Rattle.finder.specs.Fewest.{NoneOfFewIsAccepted}
+pub use Rattle.finder.specs.Fewest.{NoneOfFewIsAccepted, end_after, stretch_over}
 pub use Rattle.finder.specs.Settlement.{HasTooManyPieces, IsFitted, IsHeard, IsSettledAs, SettledData, Settles, settled_data}
 pub use Rattle.finder.specs.declared.fault.FindFault.{FindFault}
 pub use Rattle.finder.specs.declared.fault.FindFault.TheVariants.{Memory, TooManyPieces}
@@ -32,7 +32,7 @@ pub use Rattle.intersection.specs.declared.kinds.Hull.{Hull}
 pub use Rattle.intersection.specs.declared.kinds.Hull.TheVariants.{Bounded, Empty, Unbounded}
 pub use Rattle.sample_interval.specs.Moment.{error_of}
 pub use Rattle.sample_interval.specs.Widening.{IsRate, billion, widening}
-pub use Rattle.span_cover.specs.Group.{piece_hull}
+pub use Rattle.span_cover.specs.Group.{is_inside, piece_hull}
 pub use Rattle.span_cover.specs.Piece.{IsPiece}
 pub use Rattle.span_cover.specs.declared.part.Part.{Part}
 pub use Rattle.span_cover.specs.declared.stretch.Stretch.{Stretch}
