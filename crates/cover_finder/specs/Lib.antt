@@ -3,6 +3,7 @@ pub mod Common
 pub mod Finder
 pub mod Hull
 pub mod Open
+pub mod Reach
 pub mod Ridge
 pub mod Search
 pub mod Side
