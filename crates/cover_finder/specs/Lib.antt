@@ -4,6 +4,7 @@ pub mod Finder
 pub mod Hull
 pub mod Made
 pub mod Open
+pub mod Reach
 pub mod Ridge
 pub mod Search
 pub mod Side
