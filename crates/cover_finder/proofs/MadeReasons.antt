@@ -128,7 +128,8 @@ pub none_fewer : (cases : List Case) (k : ℕ) (case : Case) (left : ℕ) → k 
     → pieces_in (map case_data cases) ≤ max_pieces → ⊥
 none_fewer cases k case left below is so_far less few =
     let count : CaseData → ℕ = λ x. length x.pieces in
-    let all = sum_by_more_le count (map case_data cases) k (case_data case) (omega (arith, length-map cases case_data)) in
+    let all = sum_by_more_le count (map case_data cases) k (case_data case)
+    (omega (arith, length-map cases case_data)) in
     let front = ap (sum_by count) (take-map case_data k cases) in
     let here = ap count (get_or-map case_data cases k case (case_data case) below ∙ ap case_data (sym is)) in
     omega (arith, all, front, here, length-map case.pieces.items piece_data)
