@@ -21,12 +21,12 @@ use Rattle.cover_finder.proofs.CaseEnds.{HoldOutside}
 use Rattle.cover_finder.proofs.NearMarks.{left_near, low_over_below, mark_near, near_agrees, parts_near}
 
 -- a number that is no greater than another, nor than the error of any of some marks
-record IsBeneath (point : ℤ) (marks : List Mark) : Type 0 where
-  error : ℤ
-  below : error ≤ℤ point
-  below_each : All (λ mark. error ≤ℤ mark.error) marks
+pub record IsBeneath (point : ℤ) (marks : List Mark) : Type 0 where
+  pub error : ℤ
+  pub below : error ≤ℤ point
+  pub below_each : All (λ mark. error ≤ℤ mark.error) marks
 
-beneath : (point : ℤ) (marks : List Mark) → IsBeneath point marks
+pub beneath : (point : ℤ) (marks : List Mark) → IsBeneath point marks
 beneath point [] = record {
   error = point;
   below = omega (arith, ints);

@@ -22,14 +22,14 @@ covers_are covers cases of_covers few = ⊎_elim
 
 module _ (claim : ClaimData) (xs : List Exchange) (stretch : Stretch) where
   -- a hull, and the cover of few groups that is left out
-  record IsOfCase (hull : Hull) : Type 0 where
-    out : Groups
-    without : IsHullWithout claim xs stretch (holds out) hull
-    cover : IsCover claim xs (holds out)
-    small : size_of claim (holds out) ≤ claim.false_max
+  pub record IsOfCase (hull : Hull) : Type 0 where
+    pub out : Groups
+    pub without : IsHullWithout claim xs stretch (holds out) hull
+    pub cover : IsCover claim xs (holds out)
+    pub small : size_of claim (holds out) ≤ claim.false_max
 
   -- with these groups false, or some, what the others say holds a point
-  abbrev IsHeld : ℤ → Type 0
+  abbrev pub IsHeld : ℤ → Type 0
   IsHeld point = (is_in : ℕ → Bool) × HoldOutside claim xs stretch point is_in
 
   module _ (hull : Hull) (case : IsOfCase hull) (lo hi : ℤ) (bounded : hull ≡ Bounded lo hi) where
@@ -40,14 +40,14 @@ module _ (claim : ClaimData) (xs : List Exchange) (stretch : Stretch) where
         (IsHull (group_intervals claim.groups case.without.parts) (claim.false_max - size_of claim (holds case.out)))
         bounded (is_hull claim xs stretch (holds case.out) hull case.without)
 
-    low_held : IsHeld lo
+    pub low_held : IsHeld lo
     low_held = (
       _,
       hold_outside claim xs stretch (holds case.out) case.without.parts case.without.whole lo case.cover
           case.small ends.1.0,
     )
 
-    high_held : IsHeld hi
+    pub high_held : IsHeld hi
     high_held = (
       _,
       hold_outside claim xs stretch (holds case.out) case.without.parts case.without.whole hi case.cover

@@ -2,6 +2,9 @@ pub mod Answer
 pub mod Common
 pub mod Finder
 pub mod Hull
+pub mod Made
+pub mod Open
+pub mod Reach
 pub mod Ridge
 pub mod Search
 pub mod Side

@@ -1,7 +1,8 @@
 -- What a search by covers gives.
-use Rattle.std.specs.Prelude.{⊤, true, List, Option, IfSome}
-use Rattle.cover_finder.specs.Common.{certificate_data, refutation_data, ClaimData, CoverCertificateData, Exchange, IsAccepted, IsFew, Refutation, SettlesWithDrift}
+use Rattle.std.specs.Prelude.{true, List, Option, IfSome}
+use Rattle.cover_finder.specs.Common.{certificate_data, refutation_data, ClaimData, CoverCertificateData, Exchange, IsAccepted, IsFew, Refutation, SettlesWithDrift, SomeCourse}
 use Rattle.cover_certificate.specs.declared.cover_certificate.CoverCertificate.{CoverCertificate}
+use Rattle.cover_finder.specs.Open.{MayStayOpen}
 use Rattle.cover_finder.specs.declared.search.Found.{Found}
 use Rattle.cover_finder.specs.declared.search.Found.TheVariants as found
 
@@ -21,10 +22,10 @@ abbrev pub IsRefutedIfFound : ClaimData → List Exchange → Option Refutation 
 IsRefutedIfFound claim xs found =
     IfSome found (λ refutation. SettlesWithDrift claim xs (refutation_data refutation) true)
 
--- what is found is so
+-- What is found is so. Where nothing is, though a course fits, there is a reason.
 abbrev pub Finds : ClaimData → List Exchange → Found → Type 0
 Finds claim xs (found.Certificate certificate) =
     IsCarriedBy claim xs (certificate_data certificate)
 Finds claim xs (found.Refutation refutation) =
     SettlesWithDrift claim xs (refutation_data refutation) true
-Finds claim xs found.Nothing = ⊤
+Finds claim xs found.Nothing = SomeCourse claim xs → MayStayOpen claim xs

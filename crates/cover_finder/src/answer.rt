@@ -1,7 +1,7 @@
 //! What settles a claim, by a certificate of either form.
 
-ghost use Rattle.std.specs.Prelude.{◌≤◌, length, map, All, IsTrue};
-ghost use Rattle.cover_finder.specs.Answer.{Answers, IsBeyondPieces};
+ghost use Rattle.std.specs.Prelude.{◌≡◌, ◌≤◌, length, map, All, IsTrue};
+ghost use Rattle.cover_finder.specs.Answer.{Answers, IsBeyondPieces, is_unsettled};
 ghost use Rattle.cover_finder.specs.Common.{claim_data, IsLawful, Settles};
 
 use crate::search::{Found, find_by_covers};
@@ -27,7 +27,9 @@ fn is_open<X: ToExchange>(
     settled: &Result<Settled, FindFault>,
 ) -> bool
     requires { Settles (claim_data claim.now) (map X.shown exchanges.now) settled.now }
-    ensures { IsTrue result → IsBeyondPieces (claim_data claim.now) (map X.shown exchanges.now) }
+    ensures exact { result ≡ is_unsettled settled.now }
+    ensures beyond { IsTrue result →
+        IsBeyondPieces (claim_data claim.now) (map X.shown exchanges.now) }
 {
     matches!(
         settled,
@@ -37,6 +39,9 @@ fn is_open<X: ToExchange>(
 
 /// Settles a claim as [`finder::settle`] does, or by what is found by covers where that leaves it
 /// open, or would have too many pieces.
+///
+/// It stays open only where an error that the exchanges admit is less than two ticks short of being
+/// beyond the bound, or where there are 64 minimal covers or more, or more pieces than may be.
 ///
 /// There are at most 1,000,000 exchanges. `TooManyPieces` comes if neither form has few enough
 /// pieces and no refutation is found, and `Memory` if none is left.
@@ -51,14 +56,12 @@ pub fn settle<X: ToExchange>(
     ensures { Answers (claim_data claim.now) (map X.shown exchanges.now) result }
 {
     let settled = finder::settle(alloc, exchanges, claim);
-    if is_open(exchanges, claim, &settled) {
-        match find_by_covers(alloc, exchanges, claim)? {
-            Found::Certificate(certificate) => return Ok(Answer::ShownByCovers(certificate)),
-            Found::Refutation(refutation) => {
-                return Ok(Answer::OfFinder(Settled::Refuted(refutation)));
-            }
-            Found::Nothing => {}
-        }
+    if !is_open(exchanges, claim, &settled) {
+        return Ok(Answer::OfFinder(settled?));
     }
-    Ok(Answer::OfFinder(settled?))
+    match find_by_covers(alloc, exchanges, claim)? {
+        Found::Certificate(certificate) => Ok(Answer::ShownByCovers(certificate)),
+        Found::Refutation(refutation) => Ok(Answer::OfFinder(Settled::Refuted(refutation))),
+        Found::Nothing => Ok(Answer::OfFinder(settled?)),
+    }
 }

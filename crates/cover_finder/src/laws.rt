@@ -1,10 +1,11 @@
 //! What hulls by covers say, and how near. A law is a function that does nothing: its contract is
 //! the law, for every number.
 
-ghost use Rattle.std.specs.Prelude.{ℕ, ◌<◌, List, length, All};
+ghost use Rattle.std.specs.Prelude.{◌≡◌, ℕ, ◌<◌, ℤ, pos, ◌+ℤ◌, ◌≤ℤ◌, false, Some, List, length, slice_get, All};
 ghost use Rattle.claim_file.specs.Claim.{IsLawful};
-ghost use Rattle.cover_finder.specs.Common.{ClaimData, Exchange, Hull, IsLawful as IsLawfulExchange, IsPiece, Stretch};
+ghost use Rattle.cover_finder.specs.Common.{AreLeastCovers, ClaimData, Exchange, Groups, Hull, IsLawful as IsLawfulExchange, IsPiece, Stretch, holds};
 ghost use Rattle.cover_finder.specs.Hull.{HoldsError, IsHullByCovers, IsNearlyAttained};
+ghost use Rattle.cover_finder.specs.Open.{IsNearlyOff, LiesInside};
 
 use cover_checker::laws::hulls_hold_the_error;
 
@@ -30,3 +31,19 @@ pub fn ends_are_nearly_attained()
         IsPiece stretch.begin stretch.end → (by : IsHullByCovers claim xs stretch hull) →
         length by.of.covers < 64 → IsNearlyAttained claim xs stretch hull }
 {}
+
+/// Where the hull of a case, whose groups are a minimal cover, isn't inside the bound over a tick
+/// of the span or less, some course that fits is nearly off.
+///
+/// The hull isn't empty, since a course fits with the servers of these groups false. Where it is
+/// unbounded, the error may be anything; else one of its ends lies beyond the bound. That end is
+/// nearly attained, and over a tick the error changes by a tick at most.
+pub fn what_a_case_leaves_unshown_is_nearly_off()
+    ensures { (claim : ClaimData) (xs : List Exchange) (covers : List Groups) (k : ℕ) (out : Groups)
+        (begin end : ℤ) → IsLawful claim → All (IsLawfulExchange (length claim.servers)) xs →
+        AreLeastCovers claim xs covers → slice_get covers k ≡ Some out → claim.first ≤ℤ begin →
+        begin ≤ℤ end → end ≤ℤ claim.last → end ≤ℤ (begin +ℤ pos 1) →
+        LiesInside claim xs (holds out) begin end false → IsNearlyOff claim xs }
+{
+    hulls_hold_the_error();
+}

@@ -1,10 +1,13 @@
 //! The search by covers: for a certificate, or else a refutation.
 
-ghost use Rattle.std.specs.Prelude.{◌≡◌, ◌≤◌, length, map, All, IfOk, IsTrue};
-ghost use Rattle.cover_finder.specs.Common.{claim_data, certificate_data, conflicts_data, IsConflictTable, IsFew, IsLawful};
-ghost use Rattle.cover_finder.specs.Search.{Finds, IsCarriedIfFound};
-ghost use Rattle.cover_finder.specs.Table.{AreListed};
+ghost use Rattle.std.specs.Prelude.{◌≡◌, ◌↔◌, ℕ, ◌<◌, ◌≤◌, ◌^◌, List, length, map, All, IfOk, IfNone, IsSome, IsTrue};
+ghost use Rattle.cover_finder.specs.Common.{claim_data, certificate_data, conflict_data, conflicts_data, AreLeastCovers, Exchange, IsConflictTable, IsFew, IsLawful};
+ghost use Rattle.cover_finder.specs.Made.{AreMadeOf, IsNotMade, NameAllConflicts};
+ghost use Rattle.cover_finder.specs.Made as spec;
+ghost use Rattle.cover_finder.specs.Search.{Finds, IsCarriedBy, IsCarriedIfFound};
+ghost use Rattle.cover_finder.specs.Table.{AreListed, AreTablesOf};
 
+use crate::laws::what_a_case_leaves_unshown_is_nearly_off;
 use crate::reach::{Search, Stop};
 use crate::refuted::find_refutation;
 use crate::table::{Table, tables_of};
@@ -13,19 +16,31 @@ use certificate::{MAX_PIECES, Refutation};
 use claim_file::Claim;
 use cover_certificate::{Case, CoverCertificate, MAX_CASES, MAX_CONFLICTS};
 use cover_checker::{CoverVerdict, check_covers};
-use feasibility::{Conflicts, Groups, conflicts_of, first_contradictions};
+use feasibility::laws::tables_settle_covers;
+use feasibility::{Conflict, Conflicts, Groups, conflicts_of, first_contradictions};
 use pairing::ToExchange;
 use std::alloc::{AllocError, Global};
 
 /// The numbers of these groups.
-fn numbers_of(out: Groups) -> ArrayVec<u8, 32> {
+fn numbers_of(claim: &Claim, out: Groups) -> ArrayVec<u8, 32>
+    ensures { result.items ≡ spec.numbers_of (claim_data claim.now) out }
+{
     let mut numbers = ArrayVec::new();
-    for group in 0..32u8 {
+    for group in 0..claim.groups.len() as u8 {
         if out.contains(group) {
             numbers.push(group);
         }
     }
     numbers
+}
+
+/// The numbers of the exchanges that show a conflict.
+fn pair_of(conflict: &Conflict) -> (u32, u32)
+    requires low { conflict.now.pair.low < 2 ^ 32 }
+    requires high { conflict.now.pair.high < 2 ^ 32 }
+    ensures { result ≡ spec.pair_of (conflict_data conflict.now) }
+{
+    (conflict.pair.low as u32, conflict.pair.high as u32)
 }
 
 /// The exchanges of all conflicts.
@@ -37,19 +52,17 @@ fn pairs_of<X: ToExchange>(
 ) -> Result<Vec<(u32, u32)>, AllocError>
     requires exchanges { All (IsLawful (length claim.now.servers.items))
         (map X.shown exchanges.now) }
+    requires few { length exchanges.now ≤ 1_000_000 }
     requires groups { (conflicts_data conflicts.now).groups ≡ length claim.now.groups.items }
     requires table { IsConflictTable (claim_data claim.now) (map X.shown exchanges.now)
         (conflicts_data conflicts.now).is_broken (conflicts_data conflicts.now).is_edge }
+    ensures { IfOk result (λ pairs.
+        NameAllConflicts (claim_data claim.now) (map X.shown exchanges.now) pairs.items) }
 {
     let found = first_contradictions(alloc, exchanges, claim, conflicts)?;
     let mut pairs = Vec::new(alloc);
     for conflict in found.as_slice() {
-        let pair = conflict.pair;
-        if let Ok(low) = u32::try_from(pair.low)
-            && let Ok(high) = u32::try_from(pair.high)
-        {
-            pairs.push((low, high))?;
-        }
+        pairs.push(pair_of(conflict))?;
     }
     Ok(pairs)
 }
@@ -62,6 +75,9 @@ fn cases_of(
     covers: &[Groups],
 ) -> Result<Option<Vec<Case>>, AllocError>
     requires { AreListed (length claim.now.groups.items) tables.now }
+    ensures { IfOk result (λ made. (xs : List Exchange) →
+        AreTablesOf (claim_data claim.now) xs tables.now →
+        AreMadeOf (claim_data claim.now) xs covers.now made) }
 {
     let mut cases = Vec::new(alloc);
     let mut left = MAX_PIECES;
@@ -73,11 +89,12 @@ fn cases_of(
             out,
             more,
         };
-        let (pieces, Stop::End) = search.longest_pieces(alloc, left)? else {
+        let (pieces, stop) = search.longest_pieces(alloc, left)?;
+        let Stop::End = stop else {
             return Ok(None);
         };
         left = left.saturating_sub(pieces.len());
-        let groups = numbers_of(out);
+        let groups = numbers_of(claim, out);
         cases.push(Case { groups, pieces })?;
     }
     Ok(Some(cases))
@@ -85,7 +102,7 @@ fn cases_of(
 
 /// Whether a certificate has few enough of each.
 fn is_few(certificate: &CoverCertificate) -> bool
-    ensures { IsTrue result → IsFew (certificate_data certificate.now) }
+    ensures { IsTrue result ↔ IsFew (certificate_data certificate.now) }
 {
     let mut left = MAX_PIECES;
     for case in certificate.cases.as_slice() {
@@ -105,7 +122,9 @@ fn if_accepted<X: ToExchange>(
 ) -> Option<CoverCertificate>
     requires exchanges { All (IsLawful (length claim.now.servers.items))
         (map X.shown exchanges.now) }
-    ensures { IsCarriedIfFound (claim_data claim.now) (map X.shown exchanges.now) result }
+    ensures carried { IsCarriedIfFound (claim_data claim.now) (map X.shown exchanges.now) result }
+    ensures found { IsCarriedBy (claim_data claim.now) (map X.shown exchanges.now)
+        (certificate_data certificate) → IsSome result }
 {
     if !is_few(&certificate) {
         return None;
@@ -139,12 +158,17 @@ fn certificate_of<X: ToExchange>(
 ) -> Result<Option<CoverCertificate>, AllocError>
     requires exchanges { All (IsLawful (length claim.now.servers.items))
         (map X.shown exchanges.now) }
+    requires few { length exchanges.now ≤ 1_000_000 }
     requires groups { (conflicts_data conflicts.now).groups ≡ length claim.now.groups.items }
     requires table { IsConflictTable (claim_data claim.now) (map X.shown exchanges.now)
         (conflicts_data conflicts.now).is_broken (conflicts_data conflicts.now).is_edge }
-    requires tables { AreListed (length claim.now.groups.items) tables.now }
-    ensures { IfOk result
+    requires covers { AreLeastCovers (claim_data claim.now) (map X.shown exchanges.now) covers.now }
+    requires tables { AreTablesOf (claim_data claim.now) (map X.shown exchanges.now) tables.now }
+    requires listed { AreListed (length claim.now.groups.items) tables.now }
+    ensures carried { IfOk result
         (IsCarriedIfFound (claim_data claim.now) (map X.shown exchanges.now)) }
+    ensures none { IfOk result (λ found. IfNone found
+        (IsNotMade (claim_data claim.now) (map X.shown exchanges.now) covers.now)) }
 {
     let Some(cases) = cases_of(alloc, tables, claim, covers)? else {
         return Ok(None);
@@ -153,9 +177,27 @@ fn certificate_of<X: ToExchange>(
     Ok(if_accepted(exchanges, claim, CoverCertificate { conflicts, cases }))
 }
 
+/// The minimal covers of the conflicts: all of them, or 64.
+fn covers_of<X: ToExchange>(
+    exchanges: &[X],
+    claim: &Claim,
+    conflicts: &Conflicts,
+) -> ArrayVec<Groups, 64>
+    requires exchanges { All (IsLawful (length claim.now.servers.items))
+        (map X.shown exchanges.now) }
+    requires groups { (conflicts_data conflicts.now).groups ≡ length claim.now.groups.items }
+    requires table { IsConflictTable (claim_data claim.now) (map X.shown exchanges.now)
+        (conflicts_data conflicts.now).is_broken (conflicts_data conflicts.now).is_edge }
+    ensures { AreLeastCovers (claim_data claim.now) (map X.shown exchanges.now) result.items }
+{
+    tables_settle_covers();
+    conflicts.covers(claim.false_max)
+}
+
 /// Looks for a certificate by covers. It names all conflicts, its cases are the minimal covers, and
 /// each case's pieces are as long as the bound allows. What is found is accepted. If there is none,
-/// a refutation is looked for where the pieces of a case stop; what is found stands.
+/// a refutation is looked for where the pieces of a case stop; what is found stands. Where a course
+/// fits and neither is found, there is a reason.
 ///
 /// There are at most 1,000,000 exchanges. The one error is that no memory is left.
 pub fn find_by_covers<X: ToExchange>(
@@ -168,8 +210,9 @@ pub fn find_by_covers<X: ToExchange>(
     requires few { length exchanges.now ≤ 1_000_000 }
     ensures { IfOk result (Finds (claim_data claim.now) (map X.shown exchanges.now)) }
 {
+    what_a_case_leaves_unshown_is_nearly_off();
     let conflicts = conflicts_of(alloc, exchanges, claim)?;
-    let covers = conflicts.covers(claim.false_max);
+    let covers = covers_of(exchanges, claim, &conflicts);
     let covers = covers.as_slice();
     let tables = tables_of(alloc, exchanges, claim)?;
     let tables = tables.as_slice();

@@ -305,6 +305,7 @@ pub(crate) fn said_over(tables: &[Table], claim: &Claim, out: Groups, stretch: S
     requires stretch { IsPiece stretch.begin stretch.end }
     requires tables { AreListed (length claim.now.groups.items) tables.now }
     ensures listed { All (λ part. part.server < length claim.now.groups.items) result.parts.items }
+    ensures same_number { length result.entries.items ≡ length result.parts.items }
     ensures whole { (xs : List TheExchange) → AreTablesOf (claim_data claim.now) xs tables.now →
         AreWhole (claim_data claim.now) xs (holds out) stretch result.parts.items }
     ensures in_step { (xs : List TheExchange) → AreTablesOf (claim_data claim.now) xs tables.now →
