@@ -160,7 +160,7 @@ FACTS = [
     ("what a server's root distance leaves out", [r"jitter"], "README THEOREM"),
     ("what a yes rests on over files", [r"SHA-256", r"known beforehand"], "THEOREM"),
     ("how long proving and building take", [r"12 to 25 minutes"], "REFUSALS"),
-    ("how long the gate takes", [r"100 minutes of one processor"], "DECISIONS"),
+    ("how long the gate takes", [r"200 minutes of one processor"], "DECISIONS"),
     ("how large the steps of a search are", [r"p log n"], "DECISIONS"),
 ]
 # These tell again what others have: what changed and when, how large the inputs of a measurement are, and what a

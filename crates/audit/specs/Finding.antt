@@ -10,8 +10,8 @@ use Rattle.audit.specs.Settle.{IsAnswerFrom, IsAnswerOf}
 
 -- ---- what it shows of evidence
 
--- what settles the claim; or a course fits, there would be too many pieces, and none by covers shows
--- it for a reason
+-- what settles the claim; or a course fits, there would be too many pieces, and there is a reason
+-- why nothing by covers settles it
 abbrev pub IsSettlementOf : EvidenceData → Result AnswerData FindFault → Type 0
 IsSettlementOf e (Ok answer) = IsAnswerOf e answer
 IsSettlementOf e (Err TooManyPieces) = HasTooManyPieces e.claim e.collection.exchanges

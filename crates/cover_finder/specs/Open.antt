@@ -5,8 +5,8 @@ use Rattle.cover_finder.specs.Common.{AreLeastCovers, ClaimData, Course, Exchang
 use Rattle.cover_finder.specs.Hull.{IsHullWithout}
 
 module _ (claim : ClaimData) (xs : List Exchange) where
-  -- In some course that fits, the error is a tick less than the bound, or more, when the clock shows
-  -- a reading of the span. So no bound holds that is two ticks less.
+  -- In some course that fits, the error is a tick less than the bound, or more, when the clock
+  -- shows a reading of the span. So no bound holds that is two ticks less.
   pub record IsNearlyOff : Type 0 where
     pub course : Course
     pub fits : Fits claim xs course
