@@ -22,8 +22,8 @@ loop-low-preserved-then-shows c =
       to_last = so_far.to_last;
       shown = λ xs tables none.
           answered (claim_data c.args.self.now.claim.now) xs (holds c.args.self.now.out) c.args.begin
-          c.trial-end.result c.hull-hull.result c.shows.result true (c.hull-hull.ensures xs tables none) (c.shows.ensures none)
-          c.if-shows.true;
+          c.trial-end.result c.hull-hull.result c.shows.result true (c.hull-hull.ensures xs tables none)
+          (c.shows.ensures none) c.if-shows.true;
       no_longer = so_far.no_longer;
     }
 
