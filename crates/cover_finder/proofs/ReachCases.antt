@@ -23,5 +23,5 @@ case_holds claim xs out case same reach show = record {
   ends_with_span = last_end-ends_of claim.first case.pieces ∙ reach.with_span;
   each = λ k piece at. subst (λ (set : ℕ → Bool). ShowBound claim xs set
       (stretch_over (begin_of claim.first case.pieces k) (pos piece.upto)) piece.entries)
-      (fun_ext same) (show k piece at);
+      (fun_ext same) (show.each k piece at);
 }

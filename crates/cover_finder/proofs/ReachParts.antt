@@ -1,5 +1,5 @@
 -- What the servers say over a stretch: all of it is said in one way, and the entries say it to a checker.
-use Rattle.std.proofs.Common.{◌≡◌, ℕ, zero, suc, ◌-◌, ◌<◌, ℤ, pos, neg_ℤ, ◌≤ℤ◌, Bool, true, false, not, List, [], ◌∷◌, ◌++◌, length, get_or, Some, Ok, Result, refl, sym, ap, ap₂, ◌∙◌, subst, arith, append-nil, append_assoc, ⊎_elim}
+use Rattle.std.proofs.Common.{◌≡◌, ℕ, zero, suc, ◌-◌, ◌<◌, ℤ, neg_ℤ, ◌≤ℤ◌, Bool, true, false, not, List, [], ◌∷◌, ◌++◌, length, get_or, Some, Ok, Result, refl, sym, ap, ap₂, ◌∙◌, subst, arith, append-nil, append_assoc, ⊎_elim}
 use Rattle.std.proofs.lemmas.Bool.Decides.{nat_tests}
 use Rattle.std.proofs.lemmas.Int.{ints}
 use Rattle.std.proofs.lemmas.List.Folds.{list_any_none}
@@ -14,8 +14,8 @@ use Rattle.intersection.specs.Hull.{IsHull}
 use Rattle.lemma_base.proofs.Int.{int_le-true}
 use Rattle.lemma_base.proofs.List.{All-slice_get}
 use Rattle.span_cover.specs.Group.{group_intervals}
-use Rattle.cover_finder.specs.Common.{Bounded, ClaimData, Empty, Exchange, Hull, IsSaid, IsSaidBySome, Part, Stretch, Unbounded, group_of, is_inside, part_of, piece_hull, size_of, stretch_over}
-use Rattle.cover_finder.specs.Hull.{AreWhole, IsHullWithout, IsWhole}
+use Rattle.cover_finder.specs.Common.{Bounded, ClaimData, Empty, Exchange, Hull, IsSaid, IsSaidBySome, Part, Stretch, Unbounded, is_inside, piece_hull, size_of, stretch_over}
+use Rattle.cover_finder.specs.Hull.{AreWhole, IsWhole}
 use Rattle.cover_finder.specs.Open.{LiesInside}
 use Rattle.cover_finder.specs.Table.{AreInStep}
 use Rattle.cover_finder.proofs.List.{pushed_at}

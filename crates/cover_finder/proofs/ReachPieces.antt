@@ -1,5 +1,5 @@
 -- The longest pieces of a case, one after another.
-use Rattle.std.proofs.Common.{◌≡◌, ℕ, zero, suc, ◌+◌, ◌-◌, ◌<◌, ◌≤◌, ℤ, pos, ◌+ℤ◌, ◌≤ℤ◌, ◌<ℤ◌, Bool, true, false, List, [], ◌∷◌, ◌++◌, length, map, All, ◌⊎◌, inl, inr, ⊎_elim, refl, sym, ap, ◌∙◌, subst, arith}
+use Rattle.std.proofs.Common.{◌≡◌, ℕ, zero, suc, ◌-◌, ◌<◌, ◌≤◌, ℤ, pos, ◌+ℤ◌, ◌≤ℤ◌, ◌<ℤ◌, Bool, true, false, List, [], ◌∷◌, ◌++◌, length, map, All, ◌⊎◌, inr, refl, sym, ap, ◌∙◌, subst, arith}
 use Rattle.std.proofs.lemmas.Int.{ints}
 use Rattle.std.proofs.lemmas.List.{length-append, length-map, map-append}
 use Rattle.std.proofs.lemmas.List.Elements.{All-nil, All-push}
@@ -52,11 +52,12 @@ module _ (claim : ClaimData) (xs : List Exchange) (out : ℕ → Bool) where
 
   shown_more : (pieces : List PieceData) (piece : PieceData) → AllShowBound claim xs out pieces
       → ShowsFrom piece (end_after claim.first (ends_of pieces)) → AllShowBound claim xs out (pieces ++ piece ∷ [])
-  shown_more pieces piece all shows =
-      each_pushed (λ k p. ShowsFrom p (begin_of claim.first (pieces ++ piece ∷ []) k)) pieces piece
-      (λ k p at. subst (ShowsFrom p)
-      (sym (begin_of-front claim.first pieces piece k (slice_get_within pieces k p at))) (all k p at))
-      (subst (ShowsFrom piece) (sym (begin_of-last claim.first pieces piece)) shows)
+  shown_more pieces piece all shows = record {
+    each = each_pushed (λ k p. ShowsFrom p (begin_of claim.first (pieces ++ piece ∷ []) k)) pieces piece
+        (λ k p at. subst (ShowsFrom p)
+        (sym (begin_of-front claim.first pieces piece k (slice_get_within pieces k p at))) (all.each k p at))
+        (subst (ShowsFrom piece) (sym (begin_of-last claim.first pieces piece)) shows);
+  }
 
   -- the pieces are longest, and each shows the bound
   pub record AreShown (pieces : List PieceData) : Type 0 where
@@ -64,19 +65,19 @@ module _ (claim : ClaimData) (xs : List Exchange) (out : ℕ → Bool) where
     pub show : AllShowBound claim xs out pieces
 
   pub none_shown : AreShown []
-  none_shown = record { longest = tt; show = λ k piece at. absurd cc }
+  none_shown = record { longest = tt; show = record { each = λ k piece at. absurd cc } }
 
-  module _ (begin : ℕ) (pieces : List PieceData) (are : AreShown pieces)
-      (begins : pos begin ≡ end_after claim.first (ends_of pieces)) (piece : PieceData)
+  module _ (begin : ℕ) (pieces more : List PieceData) (piece : PieceData) (is : more ≡ pieces ++ piece ∷ [])
+      (are : AreShown pieces) (begins : pos begin ≡ end_after claim.first (ends_of pieces))
       (longest : IsLongest claim xs out (pos begin) (pos piece.upto))
       (shows : ShowBound claim xs out (stretch_over (pos begin) (pos piece.upto)) piece.entries) where
-    pub more_shown : AreShown (pieces ++ piece ∷ [])
-    more_shown = record {
+    pub more_shown : AreShown more
+    more_shown = subst AreShown (sym is) (record {
       longest = subst (AreLongest claim xs out claim.first) (sym (ends_more pieces piece))
           (longest_more claim.first (ends_of pieces) (pos piece.upto) are.longest
           (subst (λ (z : ℤ). IsLongest claim xs out z (pos piece.upto)) begins longest));
       show = shown_more pieces piece are.show (subst (ShowsFrom piece) begins shows);
-    }
+    })
 
 -- ---- where they end
 
@@ -102,25 +103,26 @@ module _ (claim : ClaimData) where
       sym (ap (end_after claim.first) (ends_more pieces piece)
       ∙ end_after_more claim.first (ends_of pieces) (pos piece.upto))
 
-  module _ (begin : ℕ) (pieces : List PieceData) (made : AreMade begin pieces) (piece : PieceData) where
-    pub more_made : begin ≤ piece.upto → pos piece.upto <ℤ claim.last → AreMade piece.upto (pieces ++ piece ∷ [])
-    more_made forward before = record {
+  module _ (pieces more : List PieceData) (piece : PieceData) (is : more ≡ pieces ++ piece ∷ []) where
+    pub more_made : (begin : ℕ) → AreMade begin pieces → begin ≤ piece.upto → pos piece.upto <ℤ claim.last
+        → AreMade piece.upto more
+    more_made begin made forward before = subst (AreMade piece.upto) (sym is) (record {
       begins = last_is pieces piece;
       from_first = omega (arith, ints, made.from_first, forward);
       to_last = omega (arith, ints, before);
       before = subst (All (λ end. end <ℤ claim.last)) (sym (ends_more pieces piece))
           (All-push (λ end. end <ℤ claim.last) (ends_of pieces) (pos piece.upto) made.before before);
-    }
+    })
 
-    pub end_reached : pos piece.upto ≡ claim.last → ReachEnd claim (ends_of (pieces ++ piece ∷ []))
-    end_reached is = record {
+    pub end_reached : pos piece.upto ≡ claim.last → ReachEnd claim (ends_of more)
+    end_reached at_last = subst (λ (ps : List PieceData). ReachEnd claim (ends_of ps)) (sym is) (record {
       some = omega (
         arith,
         length-map (pieces ++ piece ∷ []) (λ (p : PieceData). pos p.upto),
         length-append pieces (piece ∷ []),
       );
-      with_span = sym (last_is pieces piece) ∙ is;
-    }
+      with_span = sym (last_is pieces piece) ∙ at_last;
+    })
 
   pub are_full : (begin most : ℕ) (pieces : List PieceData) → AreMade begin pieces → length pieces ≡ most
       → AreFull claim most (ends_of pieces)

@@ -22,10 +22,10 @@ abbrev pub ends_of : List PieceData → List ℤ
 ends_of pieces = map (λ piece. pos piece.upto) pieces
 
 -- each of these pieces shows the bound, from where the piece before it ends
-abbrev pub AllShowBound : ClaimData → List Exchange → (ℕ → Bool) → List PieceData → Type 0
-AllShowBound claim xs out pieces = (k : ℕ) (piece : PieceData) → slice_get pieces k ≡ Some piece
-    → ShowBound claim xs out
-    (stretch_over (begin_of claim.first pieces k) (pos piece.upto)) piece.entries
+pub record AllShowBound (claim : ClaimData) (xs : List Exchange) (out : ℕ → Bool)
+    (pieces : List PieceData) : Type 0 where
+  pub each : (k : ℕ) (piece : PieceData) → slice_get pieces k ≡ Some piece → ShowBound claim xs out
+      (stretch_over (begin_of claim.first pieces k) (pos piece.upto)) piece.entries
 
 -- pieces that end at these ticks reach the span's end, by one piece at least
 pub record ReachEnd (claim : ClaimData) (ends : List ℤ) : Type 0 where
