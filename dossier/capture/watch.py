@@ -262,7 +262,8 @@ class Watch:
             self.begin()
 
     def drop(self, seconds: float = 0) -> int:
-        """Ends tcpdump as it is, and the file, since what came of it may be torn. Its status."""
+        """Ends tcpdump, which has so many seconds to end by itself, and the file, since what came of it may be torn.
+        Its status, 0 if none ran."""
         status = 0
         if self.call:
             status = self.call.end(seconds)

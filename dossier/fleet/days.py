@@ -65,7 +65,8 @@ class YearCall(NamedTuple):
 
 
 def year_of(wanted: YearCall, machine: str, names: list[str]) -> Year:
-    """The year of a machine, by its folder. Of two folders with the same day the worse counts."""
+    """The year of a machine: by these folders in its own, or by all in it if none is named; days of other years are
+    passed over. Of two with the same day the worse counts. A fault if its own can't be opened."""
     with Folder(machine) as folder:
         twice = [name for name, number in Counter(names).items() if number > 1]
         days = sorted(set(names)) or [name for name in folder.names() if folder.is_folder(name)]

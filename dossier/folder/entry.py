@@ -492,7 +492,7 @@ class Entry:
 
     @property
     def answer(self) -> Answer:
-        """What the program says, of which the verdict was made."""
+        """What the program says, of which the verdict was made. (`Elsewhere` is made of a refutation alone.)"""
         if self.verdict == UNSUPPORTED:
             return YES
         return REFUTED if isinstance(self.reason, Elsewhere) else self.verdict

@@ -243,7 +243,8 @@ def make_in(parent: int, name: str) -> None:
 
 
 def make_folder(path: str, to_do: str) -> None:
-    """Makes a folder that the command line names, if it isn't there. What to do where root may not is said."""
+    """Makes a folder that the command line names, and those above it, if they aren't there. Root is told what to do
+    where it may not."""
     def make(parent: int, name: str) -> None:
         is_ones_own(parent, to_do)
         make_in(parent, name)

@@ -21,6 +21,7 @@ def number(alert: OfServers | ForATime, one: str, many: str) -> str:
 
 
 def outside(alert: Between) -> str:
+    """Before or after, or both, there is something."""
     parts = [f"begins {length(alert.before)} before the first"] if alert.before else []
     parts += [f"ends {length(alert.after)} after the last"] if alert.after else []
     return f"The span goes beyond the packets that count: it {' and '.join(parts)}. {ON_DRIFT}"

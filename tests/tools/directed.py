@@ -5,7 +5,7 @@ import struct
 from collections.abc import Iterator
 from typing import Any, NamedTuple
 
-from tests.second.claims import Claim, changed
+from tests.second.claims import MOST, Claim, changed
 from tests.second.columns import TICKS
 from tests.tools.families import spelled
 from tests.tools.wire import CLIENT, Clock, Frame, PORT, SERVER, address, header, stamp
@@ -171,9 +171,10 @@ def claim_texts() -> Iterator[tuple[str, bytes]]:
     text = json.dumps(CLAIM).encode()
     for size in (65_535, 65_536, 65_537):
         yield f"a claim of {size} bytes", text.ljust(size)
+    for name, most in MOST.items():
+        for value in (0, most, most + 1, -1, True, "1", None):
+            yield f"{name} {value}", json.dumps({**CLAIM, name: value}).encode()
     for name, values in {
-            "false_max": (31, 32, -1, True, "1", None), "bound_ns": (0, 10**15, 10**15 + 1),
-            "drift_ppb": (500_000_000, 500_000_001), "reading_ns": (10**9, 10**9 + 1),
             "servers": ([], [address(SERVER + k) for k in range(32)], [address(SERVER + k) for k in range(33)],
                         [address(SERVER)] * 2, [address(CLIENT)], [1], ["192.0.2.01"], ["192.0.2"], ["192.0.2.256"]),
             "client": ("192.0.2.1 ", "", "0.0.0.0", "255.255.255.255", "::1"),
