@@ -3,7 +3,7 @@ use Rattle.std.proofs.lemmas.List.Elements.{All-cons, All-head, All-nil, All-tai
 use Rattle.std.proofs.lemmas.List.{map_more}
 use Rattle.std.proofs.Common.{◌+◌, ◌<◌, take}
 use Rattle.audit.proofs.Common.{◌≡◌, ◌++◌, ◌∷◌, [], ℕ, List, All, All-slice_get, IfSome, Option, Some, slice_get, true, and_parts, arith, get_or, length, map, nat_tests, refl, EvidenceData, ShowsOf, Style, Yes, whole_text}
-use Rattle.audit.specs.ByCovers.{AreHeld, AreHeldAt, IsHeldAt, IsHeldOver, are_of, hull_report, hull_text, hulls_report, hulls_text, is_of, readings_by_covers}
+use Rattle.audit.specs.ByCovers.{AreHeld, AreHeldAt, IsHeldAsNumbered, IsHeldAt, IsHeldOver, are_of, hull_report, hull_text, hulls_report, hulls_text, is_of, readings_by_covers}
 use Rattle.audit.specs.Check.{GiveSecond}
 use Rattle.audit.specs.Common.{ReadingData, reading_data, times_read}
 use Rattle.audit.specs.Second.{times_said, times_second}
@@ -43,9 +43,9 @@ read_one_more readings k d found one within before begin end =
     (one_more (map reading_data (take k readings)) found r one before own)
 
 -- a hull that stands in a place is held
-pub held_there : (e : EvidenceData) (hulls : List (Option HullOver)) (k : ℕ) (found : HullOver) → AreHeld e hulls
-    → slice_get hulls k ≡ Some (Some found) → IsHeldOver e found
-held_there e hulls k found held at =
+pub held_there : (e : EvidenceData) (hulls : List (Option HullOver)) (k : ℕ) → AreHeld e hulls
+    → IsHeldAsNumbered e hulls k
+held_there e hulls k held found at =
     All-slice_get (λ (one : Option HullOver). IfSome one (IsHeldOver e)) hulls k (Some found) held at
 
 -- each reading has a hull among those that were found

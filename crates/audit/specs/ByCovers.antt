@@ -50,6 +50,11 @@ IsHeldAt r e = (found : HullOver) × (is_of r found ≡ true) × IsHeldOver e fo
 abbrev pub AreHeld : EvidenceData → List (Option HullOver) → Type 0
 AreHeld e hulls = All (λ found. IfSome found (IsHeldOver e)) hulls
 
+-- so it is with the one that stands in the place with this number, if one does
+abbrev pub IsHeldAsNumbered : EvidenceData → List (Option HullOver) → ℕ → Type 0
+IsHeldAsNumbered e hulls number =
+    (found : HullOver) → slice_get hulls number ≡ Some (Some found) → IsHeldOver e found
+
 -- ---- one reading
 
 -- the whole text: the hull, and then when it was

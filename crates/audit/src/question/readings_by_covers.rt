@@ -3,7 +3,7 @@
 ghost use Rattle.std.specs.Prelude.{◌≡◌, ◌++◌, All, IfOk, map, slice_get, true};
 ghost use Rattle.audit.specs.Common.{AreLawfulTimes, IsFinderFor, IsLawfulReading, reading_data, rows_from, times_data};
 ghost use Rattle.audit.specs.ByCovers as spec;
-ghost use Rattle.audit.specs.ByCovers.{AreHeld, IsHeldOver, are_of, hull_there, hulls_finding, readings_by_covers};
+ghost use Rattle.audit.specs.ByCovers.{AreHeld, IsHeldAsNumbered, IsHeldOver, are_of, hull_there, hulls_finding, readings_by_covers};
 ghost use Rattle.audit.specs.Evidence.{EvidenceData, IsLawfulEvidence, evidence_data};
 
 use crate::evidence::Evidence;
@@ -90,7 +90,7 @@ fn hull_for(
     requires finder { IsFinderFor (evidence_data evidence.now).claim
         (evidence_data evidence.now).collection.exchanges finder.now }
     requires lawful { IsLawfulReading (reading_data reading.now) }
-    requires hulls { AreHeld (evidence_data evidence.now) hulls.now }
+    requires hulls { IsHeldAsNumbered (evidence_data evidence.now) hulls.now number }
     ensures begin { result.begin ≡ reading.now.begin }
     ensures end { result.end ≡ reading.now.end }
     ensures held { IsHeldOver (evidence_data evidence.now) result }
