@@ -211,6 +211,31 @@ def test_days_above_all(place: Path) -> None:
             "a folder that has days of its own" in out.decode(), True))
 
 
+def test_one_statement(place: Path) -> None:
+    """A year has one statement of a machine, by its name and by its folder, and no day in two: else nobody signs it."""
+    if not is_here("ssh-keygen", "a year that is signed"):
+        return
+    names, pages, key = ("a/web-1/2001-09-09", "a/web-1/2001-09-10", "b/web-1/2001-09-09"), place / "pages", "ann"
+    dossier("audit", *(day(place / name, k % 2, RIGHT, name=".") for k, name in enumerate(names)))
+    key_of(place, key)
+    halves = [year_of(place, name, cwd=place).rename(place / f"half-{k}") for k, name in enumerate(names)]
+    for parts, words in (((0, 1), "a/web-1: year.json has two statements of it"),
+                         ((0, 2), "web-1: year.json has two statements of it"), ((0, 0), "stands there twice")):
+        pages.mkdir()
+        for k, part in enumerate(parts):
+            year = json.loads((halves[part] / "year.json").read_text())
+            own = year["machines"][0]
+            shutil.copy(halves[part] / own["file"], pages / f"{k}.days")
+            machines = [*machines, own] if k else [own]
+            own.update(file=f"{k}.days", machine="web-1" if 2 in parts else own["machine"])
+        (pages / "year.json").write_text(json.dumps({**year, "machines": machines, "pages": {}}))
+        for way in ["sign", "--key", key], ["verify", "--known", "a", "b"]:
+            status, out, _ = dossier(*way, pages, cwd=place)
+            check(f"{way[0]} statements of {parts}", status=(status, lambda status: status > 0), said=(
+                words in out.decode(), True))
+        shutil.rmtree(pages)
+
+
 def test_lines_without_says(place: Path) -> None:
     """Each line of days has the sum of what an audit says, or the year is older than sums of pages."""
     own = place / "fleet" / "web-1"
