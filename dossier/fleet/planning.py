@@ -8,22 +8,24 @@ from typing import NamedTuple
 
 from ..fault import Fault, fault
 from ..folder import files
-from ..folder.entry import Refusal
+from ..folder.entry import Refusal, refusal_by
+from ..folder.events import read_events
 from ..folder.files import Folder, absolute, asked
 from ..folder.jobs import T, run_all
 from ..folder.result import Below
 from ..folder.year import read_statements
 from ..text import listed
-from .events import folders_of
-from .machines import (Machines, above_all, folders_above, folders_in, has_days, is_day, names_of, once, others_in,
-                       undermost)
+from .events import folders_of, machine_at
+from .machines import (Machines, above_all, folders_above, folders_in, has_days, in_words, is_day, names_of, once,
+                       others_in, undermost)
 from .signature import signed_in
-from .statements import DAYS, NOTHING, days_of
+from .statements import DAYS, NOTHING, days_of, lines_in
 
 RESTING, OWN, LOOSE, BARE = "resting", "own", "loose", "bare"
 """What a folder is. `resting`: a year or an answer to a log, which rests on days. `own`: an audit; or a part of any of
 these is there, or a capture, so that what was signed may have been taken away. `loose`: a claim, pages or a log's
 answer, which may lie among machines. `bare`: nothing but what may be folders of days."""
+LEFT_OUT, EMPTIED = "no year or answer that is named rests on what is in it", "no day, year or answer is in it"
 OF_ITS_OWN = {*files.SIGNATURES, *files.SIGNATURES.values(), *files.LEFT}
 MAX_DAYS_AT_ONCE, AT_ONCE = 1_000_000, 1_000
 """Days that are verified at once, and those of which a process reads audit.json."""
@@ -83,6 +85,7 @@ class Planning:
             self.stated[self.spelled.setdefault(absolute(day), day)] = name
         self.rests = {*self.spelled, *self.answered,
                       *(absolute(day) for below in found.values() for day in below.without_audit)}
+        self.without_days = {name for below in found.values() for name in below.without_days}
         self.spans = [below.span for below in found.values() if below.span[0]]
         self.before = {folder: [day for day in below.days if folder not in self.answers or absolute(day) not in named]
                        for folder, below in found.items()}
@@ -108,18 +111,24 @@ class Planning:
             signed = signed_in(folder)
             if signed == files.EVENTS:
                 days = folders_of(folder, self.named)
-                return Below({day: name for day, name in days.items() if is_there(day)}, True)
+                return Below({day: name for day, name in days.items() if is_there(day)}, True, without_days=[
+                    in_words(os.path.basename(machine_at(folder, resting).path))
+                    for resting in read_events(folder.data(files.EVENTS)).machines if not resting.days])
             if signed != files.YEAR:
                 return Below({})
             days, year = days_of(folder, self.named), read_statements(folder.data(files.YEAR))
             without = {day for day, name in days.items() if name == NOTHING and is_without(day)}
             return Below({day: name for day, name in days.items()
                           if day not in without and (name == NOTHING or is_there(day))},
-                         span=(str(year.year), year.made[:10]), without_audit=sorted(without))
+                         span=(str(year.year), year.made[:10]), without_audit=sorted(without), without_days=[
+                             os.path.basename(stated.machine) for stated in year.machines
+                             if not lines_in(folder, stated)])
 
     def holding(self) -> dict[str, str]:
-        """What is said of folders that hold days, and nothing else."""
-        above = {path for place in {os.path.dirname(day) for day in self.answered} for path in folders_above(place)}
+        """What is said of folders that hold days, and nothing else. One that holds none, so that what was signed may
+        have been taken away, is refused, unless it is called like a machine of which no day is named."""
+        above = {path for place in {os.path.dirname(day) for day in self.answered}
+                 for path in self.named & folders_above(place)}
         said = dict[str, str]()
         for folder in self.folders:
             path = absolute(folder)
@@ -128,7 +137,11 @@ class Planning:
             elif path in above:
                 said[folder] = "folders of an answer to a log are in it"
             elif folder in self.bare and not is_day(os.path.basename(path)):
-                said[folder] = "no year or answer that is named rests on what is in it"
+                said[folder] = LEFT_OUT
+        apart = [folder for folder, words in said.items()
+                 if words == LEFT_OUT and in_words(os.path.basename(absolute(folder))) not in self.without_days]
+        for folder in {*apart} - those_among(apart, lambda folder: holds_day(folder.path), self.seconds):
+            self.refused[folder] = refusal_by(fault(EMPTIED))
         return said
 
     def look_beside(self, holds: Iterable[str]) -> list[str]:
@@ -231,6 +244,12 @@ def is_few(days: list[str]) -> None:
 
 def is_there(path: str) -> bool:
     return asked(path, lambda _: True, False)
+
+
+def holds_day(path: str, depth: int = 2) -> bool:
+    """Whether a folder that is called after a day, or has an audit, is in one, or in those so deep in it."""
+    return has_days(path) or any(asked(other, may_be_day, False) or depth and holds_day(other, depth - 1)
+                                 for other in others_in(path))
 
 
 def may_be_day(folder: Folder) -> bool:

@@ -51,6 +51,9 @@ def test_empty_machine(place: Path) -> None:
         status, text = as_signed(place, way)
         check(f"a machine without a day {way}", status=(status, 0), last=(
             f"{empty} 2001-01-01 .. 2001-12-31 missing" in last_of(text), True))
+    told = dossier("verify", "--as-signed", "--signers", place / "signers", place / "pages", own, empty)
+    check("a machine without a day that is named", status=(told[0], 0), said=(
+        f"{empty}: (no year or answer that is named rests on what is in it)" in told[1].decode(), True))
     year = place / "pages" / "year.json"
     text = year.read_text()
     at = text.rindex('"days": 365')

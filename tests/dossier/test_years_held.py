@@ -572,9 +572,11 @@ def test_nothing_rests(place: Path) -> None:
     dossier("sign", "--key", place / "ann", pages, answer)
     asked = ["verify", "--as-signed", "--signers", signers]
     for what, status, words in rows(
-            ([answer, *fleet.iterdir()], 0, f"{fleet / 'web-2'}: (no year or answer that is named {none})"),
-            ([pages, fleet / "web-1", fleet / "web-3"], 0,
-             f"{fleet / 'web-3'}: (no year or answer that is named {none})"),
+            ([answer, fleet / "web-1", fleet / "web-2"], 0,
+             f"{fleet / 'web-2'}: (no year or answer that is named {none})"),
+            ([answer, fleet], 0, f"{fleet}: (folders of an answer to a log are in it)"),
+            ([pages, fleet / "web-1", fleet / "web-3"], 1,
+             f"{fleet / 'web-3'}: ntpaudit-dossier: no day, year or answer is in it"),
             ([pages, *fleet.iterdir()], 1, f"{fleet / 'web-2' / '2001-09-09'}: nobody signed it"),
             ([pages, pages / ".." / "pages", fleet], 1, f"{pages}: verified: its statements follow")):
         told = dossier(*asked, *what)
@@ -756,15 +758,16 @@ def test_words_of_programs(place: Path) -> None:
 
 
 def test_taken_away(place: Path) -> None:
-    """A year or an answer from which that is taken away which is signed isn't as it was signed, whatever is left."""
+    """A year, an answer or a day from which that is taken away which is signed isn't as it was signed, whatever is
+    left."""
     if not is_here("ssh-keygen", "a year that is signed"):
         return
     signers, machine = signers_of(place, "ann"), place / "fleet" / "web-1"
-    dossier("audit", day(machine, 0, RIGHT))
+    dossier("audit", day(machine, 0, RIGHT), monday := day(place / "web-2", 1, RIGHT, name="monday"))
     pages, answer = year_of(place, machine), answer_of(place, machine)
-    dossier("sign", "--key", place / "ann", pages, answer)
+    dossier("sign", "--key", place / "ann", pages, answer, monday)
     shutil.copy(place / "log.csv", place / "fleet" / "events.csv")
-    asked = ["verify", "--as-signed", "--known", "--signers", signers, pages, answer, place / "fleet"]
+    asked = ["verify", "--as-signed", "--known", "--signers", signers, pages, answer, monday, place / "fleet"]
     check("all is there", status=(dossier(*asked)[0], 0))
     for folder, own, names in ((pages, "year.json", ("year.json.sig", "pages.sums", f"{called(machine)}.days")),
                                (answer, "events.json", ("events.json.sig", "pages.sums", "answered.csv"))):
@@ -775,6 +778,16 @@ def test_taken_away(place: Path) -> None:
             status, out, _ = dossier(*asked)
             check(f"{name} without {own}", status=(status, 1), last=(
                 f"not as it was signed: {folder};" in out.decode(), True))
+            shutil.rmtree(folder)
+        left.rename(folder)
+    for folder in pages, answer, monday:
+        left = folder.rename(place / "whole")
+        for name in ".", "notes":
+            (folder / name).mkdir(parents=True)
+            status, out, _ = dossier(*asked)
+            check(f"{folder.name} with nothing but {name}", status=(status, 1), last=(
+                f"not as it was signed: {folder};" in out.decode(), True), said=(
+                f"{folder}: ntpaudit-dossier: no day, year or answer is in it" in out.decode(), True))
             shutil.rmtree(folder)
         left.rename(folder)
 
