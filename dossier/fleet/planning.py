@@ -16,8 +16,8 @@ from ..folder.result import Below
 from ..folder.year import read_statements
 from ..text import listed
 from .events import folders_of, machine_at
-from .machines import (Machines, above_all, folders_above, folders_in, has_days, in_words, is_day, names_of, once,
-                       others_in, undermost)
+from .machines import (Machines, above_all, folders_above, folders_in, has_days, in_words, is_day, is_lost, is_machine,
+                       names_of, once, others_in, undermost)
 from .signature import signed_in
 from .statements import DAYS, NOTHING, days_of, lines_in
 
@@ -138,8 +138,8 @@ class Planning:
                 said[folder] = "folders of an answer to a log are in it"
             elif folder in self.bare and not is_day(os.path.basename(path)):
                 said[folder] = LEFT_OUT
-        apart = [folder for folder, words in said.items()
-                 if words == LEFT_OUT and in_words(os.path.basename(absolute(folder))) not in self.without_days]
+        apart = [folder for folder, words in said.items() if words == LEFT_OUT and not is_lost(folder)
+                 and in_words(os.path.basename(absolute(folder))) not in self.without_days]
         for folder in {*apart} - those_among(apart, lambda folder: holds_day(folder.path), self.seconds):
             self.refused[folder] = refusal_by(fault(EMPTIED))
         return said
@@ -213,9 +213,11 @@ def days_beside(path: str, machines: list[str], rests: set[str]) -> list[str]:
     and the folders among these that can't be looked into. In one on which a year rests parts of its audit are none. In
     those of machines each that is signed is one (what isn't is a copy, or the like), and two folders down each day with
     an audit, but in a machine's."""
-    below, own = folders_in(path, are_days=False), rests.union(map(absolute, machines))
+    own, above = rests.union(map(absolute, machines)), above_all(machines)
+    below = [] if is_machine(path, above) else folders_in(path, are_days=False)
     places, days = [path, *below, *machines], list[str]()
-    for place in (other for folder in below if absolute(folder) not in own for other in others_in(folder)):
+    for place in (other for folder in below if absolute(folder) not in own and not is_machine(folder, above)
+                  for other in others_in(folder)):
         with suppress(Fault):
             days += [day for day in folders_in(place, are_days=True) if asked(day, may_be_day, True)]
         is_few(days)

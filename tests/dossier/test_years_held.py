@@ -3,6 +3,7 @@ import json
 import os
 import shutil
 import sys
+import tracemalloc
 from pathlib import Path
 from typing import Any
 from unittest import mock
@@ -222,16 +223,16 @@ def test_one_statement(place: Path) -> None:
     for parts, words in (((0, 1), "a/web-1: year.json has two statements of it"),
                          ((0, 2), "web-1: year.json has two statements of it"), ((0, 0), "stands there twice")):
         pages.mkdir()
+        kept = list[Any]()
         for k, part in enumerate(parts):
             year = json.loads((halves[part] / "year.json").read_text())
             own = year["machines"][0]
             shutil.copy(halves[part] / own["file"], pages / f"{k}.days")
-            machines = [*machines, own] if k else [own]
-            own.update(file=f"{k}.days", machine="web-1" if 2 in parts else own["machine"])
-        (pages / "year.json").write_text(json.dumps({**year, "machines": machines, "pages": {}}))
-        for way in ["sign", "--key", key], ["verify", "--known", "a", "b"]:
-            status, out, _ = dossier(*way, pages, cwd=place)
-            check(f"{way[0]} statements of {parts}", status=(status, lambda status: status > 0), said=(
+            kept.append({**own, "file": f"{k}.days", "machine": "web-1" if 2 in parts else own["machine"]})
+        (pages / "year.json").write_text(json.dumps({**year, "machines": kept, "pages": {}}))
+        for way in f"sign --key {key}", "verify --known a b":
+            status, out, _ = dossier(*way.split(), pages, cwd=place)
+            check(f"{way} statements of {parts}", status=(status, lambda status: status > 0), said=(
                 words in out.decode(), True))
         shutil.rmtree(pages)
 
@@ -792,9 +793,20 @@ def test_taken_away(place: Path) -> None:
         left.rename(folder)
 
 
+def test_deep_machines() -> None:
+    """Of machines that are thousands of folders deep only themselves are held in memory, not all that is above them."""
+    deep = "/x" * 1900
+    every = frozenset(f"{deep}/{k}" for k in range(40)) | {"/x", f"{deep}/0/y"}
+    tracemalloc.start()
+    found = machines.undermost(every)
+    check("machines that hold no others", found=(found, every - {"/x", f"{deep}/0"}), peak=(
+        tracemalloc.get_traced_memory()[1], lambda peak: peak < 20_000_000))
+    tracemalloc.stop()
+
+
 def test_namesakes_beside(place: Path) -> None:
     """A machine that is called like one of a year or an answer makes its key nobody's, whether its own days are looked
-    at or not, and that is said; but what a machine laid into its own folder is no machine."""
+    at or not, and that is said; but what a machine laid into its own folder is no machine, nor a person's name."""
     if not is_here("ssh-keygen", "a fleet that signs"):
         return
     signers, fleet = signers_of(place, "ann", "web-1", "web-2"), place / "fleet"
@@ -808,12 +820,11 @@ def test_namesakes_beside(place: Path) -> None:
     dossier("events", *among, "--split", answer, log, fleet / "web-1", env=env)
     dossier("sign", "--key", place / "ann", *among, pages, answer, env=env)
     words = "more than one machine is called web-1, so nobody knows whose key that is"
-    for within, status in (("web-1/web-1", 0), ("web-2/web-1", 0), ("archive/web-1", 1)):
+    for within, status in (("web-1/web-1", 0), ("web-2/web-1", 0), ("web-2/ann", 0), ("archive/web-1", 1)):
         (fleet / within / "2001-09-10").mkdir(parents=True)
-        if within != "web-2/web-1":  # (where no audit is, there is none of another machine)
-            shutil.copy(folders[0] / "audit.json", fleet / within / "2001-09-10")
-        for folder in pages, answer:
-            told = dossier("verify", "--as-signed", "--known", *among, folder, fleet, env=env)
+        shutil.copy(folders[0] / "audit.json", fleet / within / "2001-09-10")
+        for folder, named in (pages, [fleet]), (answer, [fleet]), (pages, [(fleet / within).parent, fleet / "web-1"]):
+            told = dossier("verify", "--as-signed", "--known", *among, folder, *named, env=env)
             line = next(line for line in told[1].decode().splitlines() if line.startswith(f"{folder}: "))
             check(f"{folder.name} beside {within}", status=(told[0], status), said=(words in line, bool(status)))
 
