@@ -8,10 +8,11 @@ from typing import NamedTuple
 
 from ..fault import Fault, fault
 from ..folder import files
-from ..folder.entry import Refusal, refusal_by
+from ..folder.entry import WORST_FIRST, Refusal, refusal_by
 from ..folder.events import read_events
 from ..folder.files import Folder, absolute, asked
 from ..folder.jobs import T, run_all
+from ..folder.older import read_any
 from ..folder.result import Below
 from ..folder.year import read_statements
 from ..text import listed
@@ -140,8 +141,8 @@ class Planning:
                 said[folder] = LEFT_OUT
         apart = [folder for folder, words in said.items() if words == LEFT_OUT and not is_lost(folder)
                  and in_words(os.path.basename(absolute(folder))) not in self.without_days]
-        for folder in {*apart} - those_among(apart, lambda folder: holds_day(folder.path), self.seconds):
-            self.refused[folder] = refusal_by(fault(EMPTIED))
+        held = those_among(apart, lambda folder: holds_day(folder.path), self.seconds, or_unknown=False)
+        self.refused |= {folder: refusal_by(fault(EMPTIED)) for folder in apart if folder not in held}
         return said
 
     def look_beside(self, holds: Iterable[str]) -> list[str]:
@@ -174,6 +175,23 @@ class Planning:
         return [path for path in every if path in self.stated or is_day(os.path.basename(path))
                 or path in audited], [absolute(path) for path in rest if path in audited]
 
+    def twice_there(self, every: list[str]) -> set[str]:
+        """The days beside a year's, not named themselves, of which that counts another folder, which is called
+        otherwise, and no better."""
+        counted = dict[str, list[str]]()
+        for day in self.spelled:
+            if not is_day(os.path.basename(day)):
+                counted.setdefault(os.path.dirname(day), []).append(day)
+
+        def is_no_worse(folder: Folder) -> bool:
+            own, none = ranks_of(folder), dict[tuple[str, str], int]()
+            others = [asked(day, ranks_of, none) for day in counted[os.path.dirname(absolute(folder.path))]]
+            return bool(own) and all(any(other.get(span, rank + 1) <= rank for other in others)
+                                     for span, rank in own.items())
+        beside = [path for path in every if path not in self.stated and is_day(os.path.basename(path))
+                  and os.path.dirname(absolute(path)) in counted and absolute(path) not in self.named]
+        return those_among(beside, is_no_worse, self.seconds, or_unknown=False)
+
     def plan(self) -> Plan:
         """The plan. Of a day that is named, though an answer rests on it, the signature has to be good, if it has one.
         """
@@ -193,6 +211,7 @@ class Planning:
         unsigned = {day for day in self.named & self.answered
                     if not asked(day, lambda folder: folder.has(files.SIGNATURE), False)}
         leaning = {path for path, day in resting.items() if day not in self.named or day in unsigned}
+        leaning |= self.twice_there(every)
         return Plan(every, self.stated, holds, leaning, machines, len(others), years, bool(self.answers), self.refused)
 
 
@@ -252,6 +271,12 @@ def holds_day(path: str, depth: int = 2) -> bool:
     """Whether a folder that is called after a day, or has an audit, is in one, or in those so deep in it."""
     return has_days(path) or any(asked(other, may_be_day, False) or depth and holds_day(other, depth - 1)
                                  for other in others_in(path))
+
+
+def ranks_of(folder: Folder) -> dict[tuple[str, str], int]:
+    """The spans of an audit, each with the place of its verdict among all, the worst first."""
+    return {(entry.claim.from_, entry.claim.to): WORST_FIRST.index(entry.verdict)
+            for entry in read_any(folder.data(files.AUDIT)).entries}
 
 
 def may_be_day(folder: Folder) -> bool:

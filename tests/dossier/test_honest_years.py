@@ -89,6 +89,23 @@ def test_lost_and_found(place: Path) -> None:
     check("lost+found that is named", status=(run([*words, own, found], env=ENVIRONMENT)[0], 0))
 
 
+def test_twice_there(place: Path) -> None:
+    """A day beside a year that counts it by another folder, which is no better, needs no signature, but a worse one."""
+    if not is_here("ssh-keygen", "a year that is signed"):
+        return
+    own = place / "fleet" / "web-1"
+    for counted, other, status in (WIDE, RIGHT, 0), (RIGHT, WIDE, 1):
+        night, beside = day(own, 1, counted, name="2001-09-10-night"), day(own, 1, other)
+        dossier("audit", night, beside)
+        signed_year(place, own if status == 0 else night)
+        for way in "--known", "--answers":
+            told = as_signed(place, way)
+            check(f"a day twice, of which a year counts the {'better' if status else 'worse'} {way}", status=(
+                told[0], status), said=(f"{beside}: nobody signed it" in told[1], bool(status)))
+        shutil.rmtree(own)
+        shutil.rmtree(place / "pages")
+
+
 def test_refused_day(place: Path) -> None:
     """A day whose audit was refused."""
     if not is_here("ssh-keygen", "a year that is signed"):
