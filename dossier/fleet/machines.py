@@ -157,7 +157,10 @@ def above_all(paths: Iterable[str]) -> frozenset[str]:
 
 def undermost(machines: frozenset[str]) -> frozenset[str]:
     """Those of machines in whose folders no others of them are: of these nothing is another machine's."""
-    return machines.difference(*(folders_above(os.path.dirname(machine)) for machine in machines))
+    above = set[str]()
+    for machine in machines:  # (one by one: a stranger's may be thousands of folders deep)
+        above |= machines & folders_above(os.path.dirname(machine))
+    return machines - above
 
 
 def names_of(paths: Iterable[str]) -> frozenset[str]:
@@ -169,7 +172,15 @@ def folders_in(place: str, are_days: bool) -> list[str]:
     """The folders in one that are called after a day, or those that aren't."""
     with Folder(place) as folder:
         return [os.path.join(place, name) for name in folder.names()
-                if is_day(name) == are_days and folder.is_folder(name)]
+                if is_day(name) == are_days and folder.is_folder(name) and not is_lost(os.path.join(place, name))]
+
+
+def is_lost(path: str) -> bool:
+    """Whether a folder is root's where a file system keeps what it has found again, and nobody sees anything in it."""
+    with suppress(OSError):
+        return os.path.basename(path) == "lost+found" and not asked(path, lambda folder: bool(folder.names()), False) \
+            and not os.stat(path, dir_fd=HOME, follow_symlinks=False).st_uid
+    return False
 
 
 def others_in(place: str) -> list[str]:
@@ -218,14 +229,25 @@ def audited_in(path: str, machines: Machines) -> str:
     return asked(path, day_in, path)
 
 
+def is_machine(place: str, resting: Collection[str], machines: Machines = Machines()) -> bool:
+    """Whether a folder is a machine's for sure, so that what is in it is that one's: a day in it has an audit, or the
+    like, and none of the folders of machines on which something rests is below it."""
+    top = f"{absolute(place).rstrip('/')}/"
+    return audited_in(place, machines) not in ("", place) and not any(f"{one}/".startswith(top) for one in resting)
+
+
 def machines_below(folders: list[str], machines: Machines, seconds: int) -> tuple[dict[str, str], dict[str, Refusal]]:
     """The folders of machines in those that are named, or in a folder in these, each with a day that has an audit of
     the same years, if it has one; and why they can't be found in some. (What is called like a machine and has no days
-    may be of whoever signs; and what is within a machine on which something rests is no machine, but that one's.)"""
+    may be of whoever signs; and what is within a machine on which something rests, or with an audited day, is no
+    machine, but that one's.)"""
     def work(path: str, _: int) -> dict[str, str]:
-        above, days = [path] if path else folders, dict[str, str]()
-        for place in {place for folder in above for place in (folder, *others_among(folder, machines))}:
-            for other in others_among(place, machines):
+        above, days, resting = [path] if path else folders, dict[str, str](), above_all(machines.resting)
+
+        def others(place: str) -> list[str]:
+            return [] if is_machine(place, resting, machines) else others_among(place, machines)
+        for place in {place for folder in above for place in (folder, *others(folder))}:
+            for other in others(place):
                 day = audited_in(other, machines)
                 days |= {absolute(other): day} if day or has_days(other) else {}
         return days

@@ -8,22 +8,25 @@ from typing import NamedTuple
 
 from ..fault import Fault, fault
 from ..folder import files
-from ..folder.entry import Refusal
+from ..folder.entry import WORST_FIRST, Refusal, refusal_by
+from ..folder.events import read_events
 from ..folder.files import Folder, absolute, asked
 from ..folder.jobs import T, run_all
+from ..folder.older import read_any
 from ..folder.result import Below
 from ..folder.year import read_statements
 from ..text import listed
-from .events import folders_of
-from .machines import (Machines, above_all, folders_above, folders_in, has_days, is_day, names_of, once, others_in,
-                       undermost)
+from .events import folders_of, machine_at
+from .machines import (Machines, above_all, folders_above, folders_in, has_days, in_words, is_day, is_lost, is_machine,
+                       names_of, once, others_in, undermost)
 from .signature import signed_in
-from .statements import DAYS, NOTHING, days_of
+from .statements import DAYS, NOTHING, days_of, lines_in
 
 RESTING, OWN, LOOSE, BARE = "resting", "own", "loose", "bare"
 """What a folder is. `resting`: a year or an answer to a log, which rests on days. `own`: an audit; or a part of any of
 these is there, or a capture, so that what was signed may have been taken away. `loose`: a claim, pages or a log's
 answer, which may lie among machines. `bare`: nothing but what may be folders of days."""
+LEFT_OUT, EMPTIED = "no year or answer that is named rests on what is in it", "no day, year or answer is in it"
 OF_ITS_OWN = {*files.SIGNATURES, *files.SIGNATURES.values(), *files.LEFT}
 MAX_DAYS_AT_ONCE, AT_ONCE = 1_000_000, 1_000
 """Days that are verified at once, and those of which a process reads audit.json."""
@@ -83,6 +86,7 @@ class Planning:
             self.stated[self.spelled.setdefault(absolute(day), day)] = name
         self.rests = {*self.spelled, *self.answered,
                       *(absolute(day) for below in found.values() for day in below.without_audit)}
+        self.without_days = {name for below in found.values() for name in below.without_days}
         self.spans = [below.span for below in found.values() if below.span[0]]
         self.before = {folder: [day for day in below.days if folder not in self.answers or absolute(day) not in named]
                        for folder, below in found.items()}
@@ -108,18 +112,24 @@ class Planning:
             signed = signed_in(folder)
             if signed == files.EVENTS:
                 days = folders_of(folder, self.named)
-                return Below({day: name for day, name in days.items() if is_there(day)}, True)
+                return Below({day: name for day, name in days.items() if is_there(day)}, True, without_days=[
+                    in_words(os.path.basename(machine_at(folder, resting).path))
+                    for resting in read_events(folder.data(files.EVENTS)).machines if not resting.days])
             if signed != files.YEAR:
                 return Below({})
             days, year = days_of(folder, self.named), read_statements(folder.data(files.YEAR))
             without = {day for day, name in days.items() if name == NOTHING and is_without(day)}
             return Below({day: name for day, name in days.items()
                           if day not in without and (name == NOTHING or is_there(day))},
-                         span=(str(year.year), year.made[:10]), without_audit=sorted(without))
+                         span=(str(year.year), year.made[:10]), without_audit=sorted(without), without_days=[
+                             os.path.basename(stated.machine) for stated in year.machines
+                             if not lines_in(folder, stated)])
 
     def holding(self) -> dict[str, str]:
-        """What is said of folders that hold days, and nothing else."""
-        above = {path for place in {os.path.dirname(day) for day in self.answered} for path in folders_above(place)}
+        """What is said of folders that hold days, and nothing else. One that holds none, so that what was signed may
+        have been taken away, is refused, unless it is called like a machine of which no day is named."""
+        above = {path for place in {os.path.dirname(day) for day in self.answered}
+                 for path in self.named & folders_above(place)}
         said = dict[str, str]()
         for folder in self.folders:
             path = absolute(folder)
@@ -128,7 +138,11 @@ class Planning:
             elif path in above:
                 said[folder] = "folders of an answer to a log are in it"
             elif folder in self.bare and not is_day(os.path.basename(path)):
-                said[folder] = "no year or answer that is named rests on what is in it"
+                said[folder] = LEFT_OUT
+        apart = [folder for folder, words in said.items() if words == LEFT_OUT and not is_lost(folder)
+                 and in_words(os.path.basename(absolute(folder))) not in self.without_days]
+        held = those_among(apart, lambda folder: holds_day(folder.path), self.seconds, or_unknown=False)
+        self.refused |= {folder: refusal_by(fault(EMPTIED)) for folder in apart if folder not in held}
         return said
 
     def look_beside(self, holds: Iterable[str]) -> list[str]:
@@ -161,6 +175,23 @@ class Planning:
         return [path for path in every if path in self.stated or is_day(os.path.basename(path))
                 or path in audited], [absolute(path) for path in rest if path in audited]
 
+    def twice_there(self, every: list[str]) -> set[str]:
+        """The days beside a year's, not named themselves, of which that counts another folder, which is called
+        otherwise, and no better."""
+        counted = dict[str, list[str]]()
+        for day in self.spelled:
+            if not is_day(os.path.basename(day)):
+                counted.setdefault(os.path.dirname(day), []).append(day)
+
+        def is_no_worse(folder: Folder) -> bool:
+            own, none = ranks_of(folder), dict[tuple[str, str], int]()
+            others = [asked(day, ranks_of, none) for day in counted[os.path.dirname(absolute(folder.path))]]
+            return bool(own) and all(any(other.get(span, rank + 1) <= rank for other in others)
+                                     for span, rank in own.items())
+        beside = [path for path in every if path not in self.stated and is_day(os.path.basename(path))
+                  and os.path.dirname(absolute(path)) in counted and absolute(path) not in self.named]
+        return those_among(beside, is_no_worse, self.seconds, or_unknown=False)
+
     def plan(self) -> Plan:
         """The plan. Of a day that is named, though an answer rests on it, the signature has to be good, if it has one.
         """
@@ -180,6 +211,7 @@ class Planning:
         unsigned = {day for day in self.named & self.answered
                     if not asked(day, lambda folder: folder.has(files.SIGNATURE), False)}
         leaning = {path for path, day in resting.items() if day not in self.named or day in unsigned}
+        leaning |= self.twice_there(every)
         return Plan(every, self.stated, holds, leaning, machines, len(others), years, bool(self.answers), self.refused)
 
 
@@ -200,9 +232,11 @@ def days_beside(path: str, machines: list[str], rests: set[str]) -> list[str]:
     and the folders among these that can't be looked into. In one on which a year rests parts of its audit are none. In
     those of machines each that is signed is one (what isn't is a copy, or the like), and two folders down each day with
     an audit, but in a machine's."""
-    below, own = folders_in(path, are_days=False), rests.union(map(absolute, machines))
+    own, above = rests.union(map(absolute, machines)), above_all(machines)
+    below = [] if is_machine(path, above) else folders_in(path, are_days=False)
     places, days = [path, *below, *machines], list[str]()
-    for place in (other for folder in below if absolute(folder) not in own for other in others_in(folder)):
+    for place in (other for folder in below if absolute(folder) not in own and not is_machine(folder, above)
+                  for other in others_in(folder)):
         with suppress(Fault):
             days += [day for day in folders_in(place, are_days=True) if asked(day, may_be_day, True)]
         is_few(days)
@@ -231,6 +265,18 @@ def is_few(days: list[str]) -> None:
 
 def is_there(path: str) -> bool:
     return asked(path, lambda _: True, False)
+
+
+def holds_day(path: str, depth: int = 2) -> bool:
+    """Whether a folder that is called after a day, or has an audit, is in one, or in those so deep in it."""
+    return has_days(path) or any(asked(other, may_be_day, False) or depth and holds_day(other, depth - 1)
+                                 for other in others_in(path))
+
+
+def ranks_of(folder: Folder) -> dict[tuple[str, str], int]:
+    """The spans of an audit, each with the place of its verdict among all, the worst first."""
+    return {(entry.claim.from_, entry.claim.to): WORST_FIRST.index(entry.verdict)
+            for entry in read_any(folder.data(files.AUDIT)).entries}
 
 
 def may_be_day(folder: Folder) -> bool:

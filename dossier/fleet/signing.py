@@ -23,7 +23,7 @@ from ..verdict.making import sizes_of
 from .audit import change_of
 from .events import EventsCall, PageOfEvents, compared as answer_compared, folders_of, machine_at
 from .signature import NAMESPACE, NO_KEYGEN, READERS, Signers, signed_in
-from .statements import BY_ANOTHER, compared, lines_in, machine_in
+from .statements import BY_ANOTHER, compared, days_of, lines_in, machine_in
 from .verify import known_in
 
 OF_A_PERSON = ("HOME", "TERM", "DISPLAY", "WAYLAND_DISPLAY", "XDG_RUNTIME_DIR", "SSH_AUTH_SOCK", "SSH_ASKPASS",
@@ -92,6 +92,7 @@ def difference_of_days(call: SignCall, folder: Folder) -> str:
     nothing if all does. Whoever signs names his own program."""
     signed = signed_in(folder)
     if signed != EVENTS:
+        days_of(folder, {"/"})
         found = compared(folder, call.known, call.leaps, call.signers, around(folder, signed))
         return found.difference or next((note for note in found.notes if note.startswith(BY_ANOTHER)), "")
     folders_of(folder, around(folder, signed))

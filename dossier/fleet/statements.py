@@ -219,10 +219,10 @@ def compared(folder: Folder, known: Known, leaps: LeapList, signers: Signers = S
     machines = [machine_in(stated, lines_in(folder, stated)) for stated in statements.machines]
     wanted = YearCall(statements.year, known, leaps, seconds_of(statements.made), signers,
                       machines=len(statements.machines), namesakes=namesakes([*machines, *others]))
-    twins, years = Twins(), list[bytes | Year]()
+    twins, years, seen = Twins(), list[bytes | Year](), set[str]()
     for stated in statements.machines:
         lines = lines_in(folder, stated)
-        if wrong := other_machine(folder, stated, lines, named):
+        if wrong := other_machine(folder, stated, lines, named) or stated_twice(stated, lines, seen):
             return Compared(wrong)
         year = year_stated(stated, lines, wanted)
         if wrong := other_days(stated, lines, year, wanted) or \
@@ -298,6 +298,15 @@ def other_machine(folder: Folder, stated: Stated, lines: list[Line], named: Coll
         return f"{label(stated.file)} has days of several machines"
     why = misplaced(stated.machine, machine, folder.path, named) if lines else ""
     return f"{label(stated.machine)}: its days are in {machine}, {why}" if why else ""
+
+
+def stated_twice(stated: Stated, lines: list[Line], seen: set[str]) -> str:
+    """That a machine, by its name or the folder of its days, has a statement among those that were seen; nothing if it
+    has none. (Of two folders with one day the worse would stand in one statement, and the better count in another.)"""
+    own = {stated.machine, *(f"{absolute(machine_in(stated, lines))}/" for _ in lines[:1])}
+    is_twice = not own.isdisjoint(seen)
+    seen |= own
+    return f"{label(stated.machine)}: {YEAR} has two statements of it" if is_twice else ""
 
 
 def machine_in(stated: Stated, lines: list[Line]) -> str:

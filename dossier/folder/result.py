@@ -296,12 +296,14 @@ class Timed:
 @dataclass(frozen=True)
 class Below:
     """The days on which what stands in a folder rests, each with its name for good; whether that is an answer to a log
-    of events; and of a year its number, the day on which it was made, and the days that it names without an audit."""
+    of events; of a year its number, the day on which it was made, and the days that it names without an audit; and the
+    last names of machines of which it names no day."""
 
     days: dict[str, str]
     is_of_events: bool = False
     span: tuple[str, str] = ("", "")
     without_audit: list[str] = field(default_factory=list)
+    without_days: list[str] = field(default_factory=list)
 
 
 @dataclass(frozen=True)

@@ -6,8 +6,8 @@ import shutil
 from pathlib import Path
 from typing import Any
 
-from tests.support import DATA, check, is_here
-from tests.dossier.audits import ENVIRONMENT, PROGRAM, called, dossier, record_of, rows, with_change
+from tests.support import DATA, check, is_here, run
+from tests.dossier.audits import ENVIRONMENT, PROGRAM, SCRIPT, called, dossier, record_of, rows, skipped, with_change
 from tests.dossier.test_events import NOON, log_of
 from tests.dossier.test_evidence import key_of
 from tests.dossier.test_fleets import days_of, machine
@@ -51,6 +51,9 @@ def test_empty_machine(place: Path) -> None:
         status, text = as_signed(place, way)
         check(f"a machine without a day {way}", status=(status, 0), last=(
             f"{empty} 2001-01-01 .. 2001-12-31 missing" in last_of(text), True))
+    told = dossier("verify", "--as-signed", "--signers", place / "signers", place / "pages", own, empty)
+    check("a machine without a day that is named", status=(told[0], 0), said=(
+        f"{empty}: (no year or answer that is named rests on what is in it)" in told[1].decode(), True))
     year = place / "pages" / "year.json"
     text = year.read_text()
     at = text.rindex('"days": 365')
@@ -61,6 +64,46 @@ def test_empty_machine(place: Path) -> None:
     dossier("sign", "--key", place / "ann", place / "pages")
     check("a year of which no day has ended", last=(last_of(as_signed(place)[1]).partition("; ")[2], (
         "not shown: days from 9999-01-01 on, which hadn't ended when it was made")))
+
+
+def test_lost_and_found(place: Path) -> None:
+    """A fleet may be a file system of its own: what root alone sees in lost+found there is nobody's day or machine."""
+    nobody = ["setpriv", "--reuid=65534", "--regid=65534", "--clear-groups"]
+    if not is_here("ssh-keygen", "a year that is signed"):
+        return
+    if os.geteuid() or not shutil.which("setpriv") or run([*nobody, PROGRAM, "--version"])[0]:
+        skipped("a file system of its own", "this isn't root, or nobody else may read the repository")
+        return
+    own, found = machine(place / "fleet", "web-1", 1), place / "fleet" / "lost+found"
+    dossier("audit", *days_of(own))
+    signed_year(place, own)
+    found.mkdir(mode=0o700)
+    for path in place, place.parent:
+        path.chmod(0o755)
+    (place / "state").mkdir()
+    (place / "state").chmod(0o777)
+    words = [SCRIPT, "verify", "--as-signed", "--signers", place / "signers", place / "pages"]
+    told = run([*nobody, *words, place / "fleet"], env={**ENVIRONMENT, "XDG_STATE_HOME": str(place / "state")})
+    check("lost+found beside a machine", status=(told[0], 0), last=(
+        last_of(told[1].decode()).startswith("all is as it was signed"), True))
+    check("lost+found that is named", status=(run([*words, own, found], env=ENVIRONMENT)[0], 0))
+
+
+def test_twice_there(place: Path) -> None:
+    """A day beside a year that counts it by another folder, which is no better, needs no signature, but a worse one."""
+    if not is_here("ssh-keygen", "a year that is signed"):
+        return
+    own = place / "fleet" / "web-1"
+    for counted, other, status in (WIDE, RIGHT, 0), (RIGHT, WIDE, 1):
+        night, beside = day(own, 1, counted, name="2001-09-10-night"), day(own, 1, other)
+        dossier("audit", night, beside)
+        signed_year(place, own if status == 0 else night)
+        for way in "--known", "--answers":
+            told = as_signed(place, way)
+            check(f"a day twice, of which a year counts the {'better' if status else 'worse'} {way}", status=(
+                told[0], status), said=(f"{beside}: nobody signed it" in told[1], bool(status)))
+        shutil.rmtree(own)
+        shutil.rmtree(place / "pages")
 
 
 def test_refused_day(place: Path) -> None:

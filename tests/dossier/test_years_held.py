@@ -3,6 +3,7 @@ import json
 import os
 import shutil
 import sys
+import tracemalloc
 from pathlib import Path
 from typing import Any
 from unittest import mock
@@ -209,6 +210,31 @@ def test_days_above_all(place: Path) -> None:
         status, out, _ = dossier("sign", "--key", place / "ann", folder)
         check(f"sign {folder.name} of a fleet with days", status=(status, lambda status: status > 0), said=(
             "a folder that has days of its own" in out.decode(), True))
+
+
+def test_one_statement(place: Path) -> None:
+    """A year has one statement of a machine, by its name and by its folder, and no day in two: else nobody signs it."""
+    if not is_here("ssh-keygen", "a year that is signed"):
+        return
+    names, pages, key = ("a/web-1/2001-09-09", "a/web-1/2001-09-10", "b/web-1/2001-09-09"), place / "pages", "ann"
+    dossier("audit", *(day(place / name, k % 2, RIGHT, name=".") for k, name in enumerate(names)))
+    key_of(place, key)
+    halves = [year_of(place, name, cwd=place).rename(place / f"half-{k}") for k, name in enumerate(names)]
+    for parts, words in (((0, 1), "a/web-1: year.json has two statements of it"),
+                         ((0, 2), "web-1: year.json has two statements of it"), ((0, 0), "stands there twice")):
+        pages.mkdir()
+        kept = list[Any]()
+        for k, part in enumerate(parts):
+            year = json.loads((halves[part] / "year.json").read_text())
+            own = year["machines"][0]
+            shutil.copy(halves[part] / own["file"], pages / f"{k}.days")
+            kept.append({**own, "file": f"{k}.days", "machine": "web-1" if 2 in parts else own["machine"]})
+        (pages / "year.json").write_text(json.dumps({**year, "machines": kept, "pages": {}}))
+        for way in f"sign --key {key}", "verify --known a b":
+            status, out, _ = dossier(*way.split(), pages, cwd=place)
+            check(f"{way} statements of {parts}", status=(status, lambda status: status > 0), said=(
+                words in out.decode(), True))
+        shutil.rmtree(pages)
 
 
 def test_lines_without_says(place: Path) -> None:
@@ -547,9 +573,11 @@ def test_nothing_rests(place: Path) -> None:
     dossier("sign", "--key", place / "ann", pages, answer)
     asked = ["verify", "--as-signed", "--signers", signers]
     for what, status, words in rows(
-            ([answer, *fleet.iterdir()], 0, f"{fleet / 'web-2'}: (no year or answer that is named {none})"),
-            ([pages, fleet / "web-1", fleet / "web-3"], 0,
-             f"{fleet / 'web-3'}: (no year or answer that is named {none})"),
+            ([answer, fleet / "web-1", fleet / "web-2"], 0,
+             f"{fleet / 'web-2'}: (no year or answer that is named {none})"),
+            ([answer, fleet], 0, f"{fleet}: (folders of an answer to a log are in it)"),
+            ([pages, fleet / "web-1", fleet / "web-3"], 1,
+             f"{fleet / 'web-3'}: ntpaudit-dossier: no day, year or answer is in it"),
             ([pages, *fleet.iterdir()], 1, f"{fleet / 'web-2' / '2001-09-09'}: nobody signed it"),
             ([pages, pages / ".." / "pages", fleet], 1, f"{pages}: verified: its statements follow")):
         told = dossier(*asked, *what)
@@ -731,15 +759,16 @@ def test_words_of_programs(place: Path) -> None:
 
 
 def test_taken_away(place: Path) -> None:
-    """A year or an answer from which that is taken away which is signed isn't as it was signed, whatever is left."""
+    """A year, an answer or a day from which that is taken away which is signed isn't as it was signed, whatever is
+    left."""
     if not is_here("ssh-keygen", "a year that is signed"):
         return
     signers, machine = signers_of(place, "ann"), place / "fleet" / "web-1"
-    dossier("audit", day(machine, 0, RIGHT))
+    dossier("audit", day(machine, 0, RIGHT), monday := day(place / "web-2", 1, RIGHT, name="monday"))
     pages, answer = year_of(place, machine), answer_of(place, machine)
-    dossier("sign", "--key", place / "ann", pages, answer)
+    dossier("sign", "--key", place / "ann", pages, answer, monday)
     shutil.copy(place / "log.csv", place / "fleet" / "events.csv")
-    asked = ["verify", "--as-signed", "--known", "--signers", signers, pages, answer, place / "fleet"]
+    asked = ["verify", "--as-signed", "--known", "--signers", signers, pages, answer, monday, place / "fleet"]
     check("all is there", status=(dossier(*asked)[0], 0))
     for folder, own, names in ((pages, "year.json", ("year.json.sig", "pages.sums", f"{called(machine)}.days")),
                                (answer, "events.json", ("events.json.sig", "pages.sums", "answered.csv"))):
@@ -752,11 +781,32 @@ def test_taken_away(place: Path) -> None:
                 f"not as it was signed: {folder};" in out.decode(), True))
             shutil.rmtree(folder)
         left.rename(folder)
+    for folder in pages, answer, monday:
+        left = folder.rename(place / "whole")
+        for name in ".", "notes":
+            (folder / name).mkdir(parents=True)
+            status, out, _ = dossier(*asked)
+            check(f"{folder.name} with nothing but {name}", status=(status, 1), last=(
+                f"not as it was signed: {folder};" in out.decode(), True), said=(
+                f"{folder}: ntpaudit-dossier: no day, year or answer is in it" in out.decode(), True))
+            shutil.rmtree(folder)
+        left.rename(folder)
+
+
+def test_deep_machines() -> None:
+    """Of machines that are thousands of folders deep only themselves are held in memory, not all that is above them."""
+    deep = "/x" * 1900
+    every = frozenset(f"{deep}/{k}" for k in range(40)) | {"/x", f"{deep}/0/y"}
+    tracemalloc.start()
+    found = machines.undermost(every)
+    check("machines that hold no others", found=(found, every - {"/x", f"{deep}/0"}), peak=(
+        tracemalloc.get_traced_memory()[1], lambda peak: peak < 20_000_000))
+    tracemalloc.stop()
 
 
 def test_namesakes_beside(place: Path) -> None:
     """A machine that is called like one of a year or an answer makes its key nobody's, whether its own days are looked
-    at or not, and that is said; but what a machine laid into its own folder is no machine."""
+    at or not, and that is said; but what a machine laid into its own folder is no machine, nor a person's name."""
     if not is_here("ssh-keygen", "a fleet that signs"):
         return
     signers, fleet = signers_of(place, "ann", "web-1", "web-2"), place / "fleet"
@@ -770,12 +820,11 @@ def test_namesakes_beside(place: Path) -> None:
     dossier("events", *among, "--split", answer, log, fleet / "web-1", env=env)
     dossier("sign", "--key", place / "ann", *among, pages, answer, env=env)
     words = "more than one machine is called web-1, so nobody knows whose key that is"
-    for within, status in (("web-1/web-1", 0), ("web-2/web-1", 0), ("archive/web-1", 1)):
+    for within, status in (("web-1/web-1", 0), ("web-2/web-1", 0), ("web-2/ann", 0), ("archive/web-1", 1)):
         (fleet / within / "2001-09-10").mkdir(parents=True)
-        if within != "web-2/web-1":  # (where no audit is, there is none of another machine)
-            shutil.copy(folders[0] / "audit.json", fleet / within / "2001-09-10")
-        for folder in pages, answer:
-            told = dossier("verify", "--as-signed", "--known", *among, folder, fleet, env=env)
+        shutil.copy(folders[0] / "audit.json", fleet / within / "2001-09-10")
+        for folder, named in (pages, [fleet]), (answer, [fleet]), (pages, [(fleet / within).parent, fleet / "web-1"]):
+            told = dossier("verify", "--as-signed", "--known", *among, folder, *named, env=env)
             line = next(line for line in told[1].decode().splitlines() if line.startswith(f"{folder}: "))
             check(f"{folder.name} beside {within}", status=(told[0], status), said=(words in line, bool(status)))
 
