@@ -163,7 +163,7 @@ def day_folders(wanted: YearCall, folder: Folder, name: str) -> Iterator[DayFold
         yield DayFolder(told if named else replace(told, verdict=NOT_COUNTED), made=record.program if record else None)
     else:
         dispute, says = plain(wanted.known.dispute(record)), written.says
-        for entry in record_by(wanted.leaps, record).entries:
+        for entry in record_by(wanted.leaps, record, by).entries:
             one = told_of(name, entry, record, by, dispute)
             yield one._replace(told=replace(one.told, says=says))
 
