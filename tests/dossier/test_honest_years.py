@@ -17,6 +17,7 @@ from tests.dossier.test_years_held import sign
 from tests.tools.wire import records_of
 
 from dossier.fleet.machines import in_quotes, in_words, may_be
+from dossier.units import now
 
 WAYS = "", "--answers", "--known", "--second", "--sample 2 --seed x", "--answers --known"
 
@@ -490,3 +491,22 @@ def test_list_that_had_ended(place: Path) -> None:
     record = days_of(own)[0] / "audit.json"
     record.write_text(record.read_text().replace('"unsupported", ', '"refuted", ', 1))
     check("another verdict", said=("(unsupported by the list" in dossier("verify", record.parent)[1].decode(), False))
+
+
+def test_clock_ahead(place: Path) -> None:
+    """A day that a clock dated in the future isn't verified, and is as it was signed once its time has come."""
+    if not is_here("ssh-keygen", "a year that is signed"):
+        return
+    own = machine(place / "fleet", "web-1", ends=RIGHT, number=3)
+    dossier("audit", *days_of(own))
+    file = days_of(own)[1] / "audit.json"
+    text = file.read_text()
+    file.write_text(json.dumps({**json.loads(text), "made": now(400)}))
+    signed_year(place, own)
+    check("a day of the future", said=("2001-09-10 not verified (here audit.json is dated in the future)" in last_of(
+        as_signed(place)[1]), True))
+    file.write_text(text)
+    for way in WAYS:
+        status, said = as_signed(place, way)
+        check(f"a day whose time has come {way}", status=(status, 0), last=(
+            "2001-09-10 not verified" in last_of(said), True))
