@@ -11,7 +11,8 @@ from typing import NamedTuple
 
 from ..fault import Fault
 from ..folder.claim import Claim, parts_of
-from ..folder.entry import DISPUTED, NOT_VERIFIED, REFUSED, WORST_FIRST, Entry, LeapList, Made, Record, read_record
+from ..folder.entry import (DISPUTED, FUTURE, NOT_VERIFIED, REFUSED, WORST_FIRST, Entry, LeapList, Made, Record,
+                            read_record)
 from ..folder.files import AUDIT, CLAIM, SIGNATURE, Folder, absolute, sum_of
 from ..folder.registry import Known
 from ..folder.result import MISSING, MAX_FOLDERS, NOT_COUNTED, Told, Year
@@ -137,7 +138,8 @@ def day_folders(wanted: YearCall, folder: Folder, name: str) -> Iterator[DayFold
         if not named and not folder.has(f"{name}/{AUDIT}"):
             yield DayFolder(Told("", NOT_COUNTED, in_a_line(name), NO_DAY))
             return
-        written, by = read_record(folder.data(f"{name}/{AUDIT}")), wanted.answering.get(name, "")
+        written = read_record(folder.data(f"{name}/{AUDIT}"), of_any_time=True)
+        by = NOBODY if written.is_future else wanted.answering.get(name, "")  # (as it is once its time has come)
         record = wanted.known.shown(folder.sum(f"{name}/{AUDIT}"), written)
         signer = signer_of(wanted, folder, name, by) if by or not record else ""
         if not record and signer and by in ("", signer):
@@ -148,7 +150,7 @@ def day_folders(wanted: YearCall, folder: Folder, name: str) -> Iterator[DayFold
             record = None
         unknown = UNKNOWN
         if by == NOBODY:  # (what was found since doesn't count, and is told)
-            unknown, record = found_since(wanted.known, record), None
+            unknown, record = FUTURE if written.is_future else found_since(wanted.known, record), None
     except Fault as error:
         words = "".join(error.words.partition(NOT_TAKEN)[:2])  # (which name in it isn't may be a stranger's sentence)
         yield DayFolder(Told(named, NOT_COUNTED, in_a_line(name), plain(words)))
@@ -163,7 +165,7 @@ def day_folders(wanted: YearCall, folder: Folder, name: str) -> Iterator[DayFold
         yield DayFolder(told if named else replace(told, verdict=NOT_COUNTED), made=record.program if record else None)
     else:
         dispute, says = plain(wanted.known.dispute(record)), written.says
-        for entry in record_by(wanted.leaps, record).entries:
+        for entry in record_by(wanted.leaps, record, by).entries:
             one = told_of(name, entry, record, by, dispute)
             yield one._replace(told=replace(one.told, says=says))
 

@@ -190,7 +190,7 @@ def timed(call: EventsCall, machine: str, path: str, events: list[Event]) -> Tim
         name = written.name if written else ""
         if verdict or not record:
             return Timed([verdict] * len(events), [None] * len(events), name)
-        record = record_by(call.leaps, record)
+        record = record_by(call.leaps, record, by)
         moments = Moments(folder, record, call.program, call.leaps).of([event.reading for event in events])
         words = [AS_SIGNED.format(moment.words, by) if by else moment.words for moment in moments]
         premises = {premises_of(entry.claim) for entry in record.entries} | ({NOT_MADE.format(by)} if by else set())

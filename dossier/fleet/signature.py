@@ -12,7 +12,7 @@ from itertools import chain
 from typing import NamedTuple
 
 from ..fault import Fault, fault
-from ..folder.entry import Record, Refusal
+from ..folder.entry import SKEW, Record, Refusal
 from ..folder.events import Events, read_events
 from ..folder.files import AUDIT, EVENTS, SIGNATURE, SIGNATURES, YEAR, Folder, absolute, data_named, sum_of
 from ..folder.jobs import find_tool, run, run_all
@@ -21,6 +21,7 @@ from ..folder.placing import keep
 from ..folder.year import Statements, read_statements
 from ..schema import is_time
 from ..text import plain, spelled
+from ..units import seconds_of
 
 NAMESPACE = "ntpaudit-dossier"
 """What a signature is made for: one that was made for anything else doesn't count."""
@@ -29,6 +30,8 @@ NONE, UNSEEN, GOOD, UNFIT, STRANGER = "none", "unseen", "good", "unfit", "strang
 KEY = re.compile(r"with (\S+) key (\S+)")
 PLAIN_NAME = re.compile(rb"[A-Za-z0-9][A-Za-z0-9@._-]*")
 USER = re.compile("[A-Za-z0-9._-]{1,32}")
+EARLY = "it is dated before what it signs"
+CHANGED = "it isn't of what stands beside it, so one of them was changed"
 NO_KEYGEN = "ssh-keygen isn't installed, which makes signatures and looks at them"
 SIGNED, SIGNERS = "signed", "signers"
 """Private copies of what was signed, and of who may sign."""
@@ -44,14 +47,14 @@ class Signature(NamedTuple):
 
     state: str
     """`none`: there is none. `unseen`: there is one, and it wasn't looked at. `good`: it fits, and its key may sign.
-    `unfit`: it isn't one of what stands there. `stranger`: it fits, and its key may not sign."""
+    `unfit`: it isn't one of what stands there, or not at that time. `stranger`: it fits, and its key may not sign."""
     at: str = ""
     """When it was made, as that says."""
     signer: str = ""
     key: str = ""
     """The key's kind and its sum."""
     why: str = ""
-    """What ssh-keygen says of a key that may not sign."""
+    """Why it doesn't fit, or what ssh-keygen says of a key that may not sign."""
 
 
 class Signers:
@@ -73,9 +76,11 @@ class Signers:
         if not folder.has(SIGNATURES[signed]):
             return Signature(NONE)
         signature, data = folder.data(SIGNATURES[signed]), folder.data(signed) if folder.has(signed) else b""
-        at = time_of(signed, data)
+        at, earliest = times_of(signed, data)
         if self.given is None:
             return Signature(UNSEEN, at)
+        if at and seconds_of(at) < earliest:
+            return Signature(UNFIT, at, why=EARLY)
         if seen := self.seen.get(sums_of(data, signature)):
             return Signature(GOOD, at, *seen)
         for name, text in ((SIGNED, data), (SIGNATURE, signature), (SIGNERS, self.given)):
@@ -198,11 +203,14 @@ def signed_in(folder: Folder, day: str = "") -> str:
     return found[0] if found else AUDIT
 
 
-def time_of(name: str, data: bytes) -> str:
-    """When one of these was signed, as it says; nothing if it isn't one."""
+def times_of(name: str, data: bytes) -> tuple[str, int]:
+    """When one of these was signed, as it says, nothing if it isn't one; and the Unix second before which it can't have
+    been: when it was made, or the end of a span that was audited. (The clocks may have been off, or set since.)"""
     with suppress(Fault):
-        return READERS[name](data).signed
-    return ""
+        signed = READERS[name](data)
+        ends = [entry.claim.last for entry in signed.entries] if isinstance(signed, Record) else []
+        return signed.signed, max([seconds_of(signed.made), *ends]) - SKEW
+    return "", 0
 
 
 def local(time: str) -> str:
@@ -220,7 +228,7 @@ def in_words(signature: Signature) -> str:
         NONE: "nobody signed it",
         UNSEEN: f"signed{at}, it says; the signature wasn't looked at (--signers FILE does)",
         GOOD: f"signed{at} by {signature.signer}, with the key {signature.key}",
-        UNFIT: "the signature doesn't fit: it isn't of what stands beside it, so one of them was changed",
+        UNFIT: f"the signature doesn't fit: {signature.why or CHANGED}",
         STRANGER: f"signed{at} with a key that may not sign by the file of signers: {signature.key}",
     }[signature.state]
-    return f"{by} ({signature.why})" if signature.why else by
+    return f"{by} ({signature.why})" if signature.why and signature.state == STRANGER else by

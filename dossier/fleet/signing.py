@@ -18,12 +18,12 @@ from ..premise.leap import record_by
 from ..records import replace
 from ..schema import json_text
 from ..text import label, plain
-from ..units import now
+from ..units import now, seconds_of
 from ..verdict.making import sizes_of
 from .audit import change_of
 from .events import EventsCall, PageOfEvents, compared as answer_compared, folders_of, machine_at
-from .signature import NAMESPACE, NO_KEYGEN, READERS, Signers, signed_in
-from .statements import BY_ANOTHER, compared, days_of, lines_in, machine_in
+from .signature import NAMESPACE, NO_KEYGEN, READERS, Signers, signed_in, times_of
+from .statements import BY_ANOTHER, compared, compared_pages, days_of, lines_in, machine_in
 from .verify import known_in
 
 OF_A_PERSON = ("HOME", "TERM", "DISPLAY", "WAYLAND_DISPLAY", "XDG_RUNTIME_DIR", "SSH_AUTH_SOCK", "SSH_ASKPASS",
@@ -53,7 +53,8 @@ def sign_all(folders: list[str], key: str, call: SignCall, seconds: int) -> int:
                 told = run_one(path, partial(sign, call, text, signature_by(key, text)), Said, seconds)
             except Fault as refused:
                 told = refusal_by(refused)
-        print(f"{label(path)}: {plain(told.line if isinstance(told, Refusal) else told.lines[0])}", flush=True)
+        for line in [told.line] if isinstance(told, Refusal) else told.lines:
+            print(f"{label(path)}: {plain(line)}", flush=True)
         worst = summed(worst, told.status)
     return worst
 
@@ -76,6 +77,8 @@ def to_be_signed(call: SignCall, path: str, _: int) -> Written:
         if not seen:
             raise fault("neither made nor verified here, so it isn't signed: `ntpaudit-dossier verify` comes first",
                         USAGE)
+        if seconds_of(now()) < times_of(AUDIT, folder.data(AUDIT))[1]:
+            raise fault("its span hasn't ended yet, so it isn't signed", USAGE)
         if words := known.dispute(record):
             return Written("", [f"{DISPUTED}: {words}"], NOT_SHOWN)
         if changed := change_of(folder, record):
@@ -127,7 +130,8 @@ def sign(call: SignCall, signed: bytes, signature: bytes, path: str, _: int) -> 
         if seen:
             call.known.add(sum_of(signed), seen)
             call.known.add_sizes(sum_of(signed), sizes_of(folder, seen))
-    return Said(lines=["signed"])
+        notes = compared_pages(folder, read_statements(signed))[1] if name == YEAR else []
+    return Said(lines=["signed", *(f"({note})" for note in notes)])
 
 
 def hand_on(said: IO[bytes] | None) -> None:

@@ -66,6 +66,7 @@ class How(NamedTuple):
 
 
 OTHER_BUILD = "by another build of the program than the audit's"
+BY_LISTS = f"{UNSUPPORTED} by the list of leap seconds of its audit, and {YES} by the one here"
 
 
 class Verifier:
@@ -88,6 +89,7 @@ class Verifier:
         difference = self.compared(folder, record, made, is_other, form < VERSION)
         notes = [OTHER_BUILD] * is_other + notes_of(made)
         if not difference:
+            notes += [BY_LISTS] * (record.verdicts != made.verdicts)
             if form == VERSION:
                 self.known.add(sum_of(data), made)
             else:
@@ -138,7 +140,7 @@ class Verifier:
 
     def compared(self, folder: Folder, record: Record, made: Record, is_other: bool, is_older: bool) -> str:
         """What stands in a folder that isn't so by the record that was made now. Another list of leap seconds may say
-        more or less than one's own, but the verdicts are the same."""
+        more or less than one's own, but no yes that isn't one by that."""
         made = replace(made, made=record.made, seconds=record.seconds, signed=record.signed, kept=record.kept,
                        program=record.program if is_other else made.program)
         for name, sum_ in made.outputs.items():
@@ -155,7 +157,8 @@ class Verifier:
             by_own = replace(record, leap_seconds=replace(listed, file=self.leaps.file))
         else:
             by_own = record_by(self.leaps, record) if listed else record
-        kept, own = ({"entries": [{"verdict": verdict} for verdict in one.verdicts]} for one in (record, made))
+        kept, own = ({"entries": [{"verdict": verdict} if was == YES else {}
+                                  for was, verdict in zip(record.verdicts, one.verdicts)]} for one in (record, made))
         differs = first_difference(said(by_own), said(made)) or first_difference(kept, own)
         return f"{files.AUDIT}:{in_words_of(*differs)}" if differs else ""
 
@@ -439,7 +442,7 @@ class Verifying:
                 record_by(self.verifier.leaps, record).verdicts != record.verdicts or \
                 not self.known.have_sizes(sum_, sizes_of(folder, record)):
             return None
-        is_judged = not self.known.shown(sum_, record)
+        is_judged = not self.known.lines.of(sum_)
         if is_judged and not (by_answers and self.known.answers.of(sum_)):
             return None
         return Verified("", [*notes_of(record), BEFORE], record, is_judged)

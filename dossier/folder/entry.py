@@ -571,6 +571,11 @@ class Record:
             raise Mangled("capture")
 
     @property
+    def is_future(self) -> bool:
+        """Whether it is dated in the future."""
+        return max(self.made, self.signed) > now(SKEW)
+
+    @property
     def status(self) -> int:
         return self.refusal.status if self.refusal else int(any(entry.verdict != YES for entry in self.entries))
 
@@ -623,6 +628,7 @@ LATER = {"program", "made", "seconds", "signed", "kept", "leap_seconds"}
 """What may be another in audit.json once it is signed or its captures are packed."""
 SKEW = 300
 """Seconds by which another machine's clock may be ahead."""
+FUTURE = f"{AUDIT} is dated in the future"
 
 
 def record_text(record: Record) -> bytes:
@@ -635,15 +641,15 @@ def record_text(record: Record) -> bytes:
     return data
 
 
-def read_record(data: bytes) -> Record:
-    """The record that audit.json holds; a fault if it is none, or of another form."""
+def read_record(data: bytes, of_any_time: bool = False) -> Record:
+    """The record that audit.json holds; a fault if it is none, or of another form, or dated in the future."""
     try:
         value: Any = parsed(data)
         if isinstance(value, dict) and type(value.get("dossier")) is int and value["dossier"] != VERSION:
             raise fault("not audited", DEVICE)
         record: Record = typed(Record, value)
-        if max(record.made, record.signed) > now(SKEW):
-            raise fault(f"{AUDIT} is dated in the future")
+        if record.is_future and not of_any_time:
+            raise fault(FUTURE)
         return record
     except Mangled as error:
         raise mangled(AUDIT, str(error)) from None

@@ -103,8 +103,10 @@ def alerts_of(leap: Leap, leaps: LeapList) -> Iterator[Alert]:
 
 
 def entry_by(leaps: LeapList, entry: Entry) -> Entry:
-    """An entry by a list: its yes is one if nothing speaks against it."""
-    leap = look_up(leaps, entry.leap.from_, entry.leap.to)
+    """An entry by a list: its yes is one if nothing speaks against it. (The stretch may be a stranger's word.)"""
+    first, last, stretched = entry.claim.first, entry.claim.last, entry.leap
+    leap = replace(look_up(leaps, min(stretched.from_, first), max(stretched.to, last)), from_=stretched.from_,
+                   to=stretched.to)
     warned = [warning for warning in entry.warnings if warning.kind not in OF_LEAPS]
     warned += alerts_of(leap, leaps)
     if entry.answer != YES:
@@ -114,8 +116,10 @@ def entry_by(leaps: LeapList, entry: Entry) -> Entry:
                    reason=None if is_yes else Cause("evidence"))
 
 
-def record_by(leaps: LeapList, record: Record) -> Record:
-    """A record by a list, whatever list its audit was made by."""
+def record_by(leaps: LeapList, record: Record, signer: str = "") -> Record:
+    """A record by a list, whatever list its audit was made by. If it counts by a signature, no yes comes of what was
+    signed as unsupported."""
     if record.refusal:
         return record
-    return replace(record, leap_seconds=leaps, entries=[entry_by(leaps, entry) for entry in record.entries])
+    return replace(record, leap_seconds=leaps, entries=[
+        entry if signer and entry.verdict == UNSUPPORTED else entry_by(leaps, entry) for entry in record.entries])

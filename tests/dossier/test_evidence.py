@@ -83,15 +83,16 @@ def test_ended_keys(place: Path) -> None:
         time.sleep(max(0, (at + timedelta(seconds=ends + 1) - datetime.now(timezone.utc)).total_seconds()))
         check(f"a key that ended just {name}",
               status=(dossier("verify", "--signers", place / "signers", folder, env=local)[0], wanted))
-    for forged, is_time in (("2026-99-99T99:99:99Z", False), ("2001-12-31T23:59:59Z", True)):
+    for forged, beside, by_hand in (("2026-99-99T99:99:99Z", 2, 2), ("2001-12-31T23:59:59Z", 1, 1),
+                                    (record["made"], 1, 0)):
         (folder / "audit.json").write_text(json.dumps({**record, "signed": forged}))
         check(f"a signature at {forged}",
-              status=(dossier("verify", "--signers", place / "signers", folder)[0], 1 if is_time else 2))
+              status=(dossier("verify", "--signers", place / "signers", folder)[0], beside))
         (folder / "audit.json.sig").unlink()
         run(["ssh-keygen", "-q", "-Y", "sign", "-f", key, "-n", "ntpaudit-dossier", folder / "audit.json"])
         (place / "signers").write_text(line)
         check(f"a signature by hand at {forged}",
-              status=(dossier("verify", "--signers", place / "signers", folder)[0], 0 if is_time else 2))
+              status=(dossier("verify", "--signers", place / "signers", folder)[0], by_hand))
 
 
 def test_allowed_signers(place: Path) -> None:

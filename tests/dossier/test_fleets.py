@@ -390,6 +390,19 @@ def test_known(place: Path) -> None:
         check(f"{file.name} cut", before=(before in dossier("verify", "--known", first)[1].decode(), False))
 
 
+def test_judged_beside_a_sample(place: Path) -> None:
+    """What was only judged before isn't verified by a sample of other days."""
+    own, other = machine(place / "fleet", "web-1", 1), day(place / "other" / "web-9", 0, RIGHT)
+    dossier("audit", *days_of(own), other)
+    dossier("year", "--year", "2001", "--split", place / "pages", own)
+    dossier("verify", "--state", place / "state", "--answers", other)
+    asked = ["verify", "--state", place / "state", "--known", "--sample", 1, "--seed", "x", place / "pages", own, other]
+    for before in False, True:
+        out = dossier(*asked)[1].decode()
+        check(f"a day beside a sample, verified before: {before}", verified=(f"{other}: verified: yes" in out, True),
+              before=(f"{other}: (that was here before)" in out, before))
+
+
 MOVE = {"after": 1_000_000_000_000_000_000, "by": 1_000_000_060_000_000_000, "low": 1, "high": 2, "rate_ppb": 0,
         "is_step": True, "until": 0, "since": 0}
 """A step that nobody made."""

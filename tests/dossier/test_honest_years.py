@@ -9,6 +9,7 @@ from typing import Any
 from tests.support import DATA, check, is_here, run
 from tests.dossier.audits import ENVIRONMENT, PROGRAM, SCRIPT, called, dossier, record_of, rows, skipped, with_change
 from tests.dossier.test_events import NOON, log_of
+from tests.dossier.leaps import leap_list
 from tests.dossier.test_evidence import key_of
 from tests.dossier.test_fleets import days_of, machine
 from tests.dossier.test_years import DAY, FIRST, RIGHT, WIDE, day
@@ -16,6 +17,7 @@ from tests.dossier.test_years_held import sign
 from tests.tools.wire import records_of
 
 from dossier.fleet.machines import in_quotes, in_words, may_be
+from dossier.units import now
 
 WAYS = "", "--answers", "--known", "--second", "--sample 2 --seed x", "--answers --known"
 
@@ -502,3 +504,52 @@ def test_copy_by_another_build(place: Path) -> None:
     signed_year(place, own)
     text = (place / "pages" / "year.json").read_text()
     check("a copy by another build", programs=(text.count("SHA-256"), 1), status=(as_signed(place)[0], 0))
+
+
+def test_list_that_had_ended(place: Path) -> None:
+    """Days that their machine signed as unsupported, since its list of leap seconds had ended, count as it signed them,
+    and are as they were signed by its list and by a good one."""
+    if not is_here("ssh-keygen", "a fleet that signs"):
+        return
+    own, (ann, allowed), (key, line) = (machine(place / "fleet", "web-1"), key_of(place, "ann"),
+                                        key_of(place, "web-1"))
+    (place / "signers").write_text(allowed + line.replace("web-1@example.org", "web-1"))
+    ended, state = leap_list(place / "ended", FIRST - 40 * DAY), {"XDG_STATE_HOME": str(place / "own")}
+    for word in rows(["audit"], ["sign", "--key", key]):
+        dossier(*word, "--leap-seconds", ended, *days_of(own), env={**ENVIRONMENT, **state})
+    log, by = log_of(place, f"machine,time\nweb-1,{NOON}Z\n"), ("--signers", place / "signers")
+    dossier("year", "--year", "2001", *by, "--split", place / "pages", own)
+    dossier("events", *by, "--split", place / "answer", log, own)
+    dossier("sign", "--key", ann, *by, place / "pages", place / "answer")
+    check("an event", words=((place / "answer" / "answered.csv").read_text().splitlines()[-1], (
+        f"web-1,{NOON}Z,,,unsupported as signed by web-1")))
+    for more in rows([], ["--leap-seconds", ended]):
+        for way in WAYS:
+            status, out, _ = dossier("verify", "--as-signed", *by, *more, *way.split(), place / "pages",
+                                     place / "answer", place / "fleet", env={
+                                         **ENVIRONMENT, "XDG_STATE_HOME": str(place / f"auditor {way} {len(more)}")})
+            check(f"a list that had ended {way} {more[:1]}", status=(status, 0), last=(
+                f"{own} 2001-09-09 unsupported" in last_of(out.decode()), True), noted=(
+                b"(unsupported by the list of leap seconds of its audit, and yes by the one here)" in out, not more))
+    record = days_of(own)[0] / "audit.json"
+    record.write_text(record.read_text().replace('"unsupported", ', '"refuted", ', 1))
+    check("another verdict", said=("(unsupported by the list" in dossier("verify", record.parent)[1].decode(), False))
+
+
+def test_clock_ahead(place: Path) -> None:
+    """A day that a clock dated in the future isn't verified, and is as it was signed once its time has come."""
+    if not is_here("ssh-keygen", "a year that is signed"):
+        return
+    own = machine(place / "fleet", "web-1", ends=RIGHT, number=3)
+    dossier("audit", *days_of(own))
+    file = days_of(own)[1] / "audit.json"
+    text = file.read_text()
+    file.write_text(json.dumps({**json.loads(text), "made": now(400)}))
+    signed_year(place, own)
+    check("a day of the future", said=("2001-09-10 not verified (here audit.json is dated in the future)" in last_of(
+        as_signed(place)[1]), True))
+    file.write_text(text)
+    for way in WAYS:
+        status, said = as_signed(place, way)
+        check(f"a day whose time has come {way}", status=(status, 0), last=(
+            "2001-09-10 not verified" in last_of(said), True))

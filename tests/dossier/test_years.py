@@ -18,6 +18,7 @@ from tests.dossier.test_evidence import key_of
 from tests.dossier.test_verdicts import CLAIM
 
 from dossier.fleet.machines import may_be
+from dossier.fleet.statements import PAGES
 
 DAY, FIRST = 86_400, 999_993_600
 """Seconds; and 2001-09-09T00:00:00Z."""
@@ -178,7 +179,8 @@ def test_signed_year(place: Path) -> None:
     signers.write_text(allowed)
     shutil.rmtree(own / "2001-09-12")
     dossier("year", "--year", "2001", "--split", pages, own)
-    check("sign a year", run=(dossier("sign", "--key", key, pages)[:2], (0, f"{pages}: signed\n".encode())),
+    check("sign a year", run=(dossier("sign", "--key", key, pages)[:2], (
+        0, f"{pages}: signed\n{pages}: ({PAGES})\n".encode())),
           again=(dossier("sign", "--key", key, pages)[0], 4))
     named, other = (pages, place / "fleet"), place / "fleet" / "web 2" / "2001-09-09"
     other.mkdir(parents=True)

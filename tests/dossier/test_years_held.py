@@ -11,8 +11,9 @@ from unittest import mock
 from tests.support import ROOT, check, is_here, run, sum_of
 from tests.dossier.audits import ENVIRONMENT, STATE, called, dossier, rows
 from tests.dossier.test_events import NOON, log_of
+from tests.dossier.leaps import LATER, leap_list
 from tests.dossier.test_evidence import key_of
-from tests.dossier.test_years import RIGHT, WIDE, day
+from tests.dossier.test_years import FIRST, RIGHT, WIDE, day
 
 from dossier import units
 from dossier.fault import Fault
@@ -1122,3 +1123,51 @@ def test_signers_called_otherwise(place: Path) -> None:
             f"{pages}: (signed by {words}, by its statements: that key is called web-1 here)" in out.decode(),
             name == words))
         shutil.rmtree(pages)
+
+
+def test_signatures_dated_before(place: Path) -> None:
+    """A retired key signs nothing that was made or recorded after its end, whatever time its holder says."""
+    if not is_here("ssh-keygen", "a fleet that signs"):
+        return
+    signers, own = signers_of(place, "web-1", "ann"), place / "fleet" / "web-1"
+    signers.write_text(signers.read_text().replace(" ssh-", ' valid-before="20020101" ssh-'))
+    dossier("audit", folder := day(own, 0, RIGHT))
+    early = "the signature doesn't fit: it is dated before what it signs"
+
+    def told(file: Path, signed: str, **more: str) -> bool:
+        file.write_text(json.dumps({**json.loads(file.read_text()), "signed": signed, **more}))
+        sign(place, "web-1" if file.name == "audit.json" else "ann", file)
+        named = [file.parent] if file.name == "audit.json" else [file.parent, own]
+        return early in dossier("verify", "--known", "--signers", signers, *named)[1].decode()
+    for out in year_of(place, own), answer_of(place, own):
+        file = next(iter([*out.glob("year.json"), *out.glob("events.json")]))
+        check(f"{file.name} by a retired key", is_early=(told(file, "2001-12-31T00:00:00Z"), True))
+        shutil.rmtree(out)
+    for signed, more, is_early in (("2001-12-31T00:00:00Z", False, True), ("2001-09-09T23:54:59Z", True, True),
+                                   ("2001-09-09T23:55:00Z", True, False)):
+        check(f"a day by a retired key, {signed}", is_early=(
+            told(folder / "audit.json", signed, **({"made": signed} if more else {})), is_early))
+        pages = year_of(place, "--signers", signers, own, env={**ENVIRONMENT, "XDG_STATE_HOME": str(place / "here")})
+        lines = (pages / f"{called(own)}.days").read_text()
+        check(f"its year, {signed}", by=(lines.split()[1], "-" if is_early else "web-1"))
+        shutil.rmtree(pages)
+    span: dict[str, Any] = {"from": units.now(), "to": units.now(units.DAY)}
+    dossier("audit", folder := day(own, 1, RIGHT, "now", **span))
+    check("a span that hasn't ended", run=(dossier("sign", "--key", place / "ann", folder)[:2], (5, (
+        f"{folder}: ntpaudit-dossier: its span hasn't ended yet, so it isn't signed\n").encode())))
+
+
+def test_hidden_leap_second(place: Path) -> None:
+    """A machine doesn't hide a leap second from the year's list by the stretch that it says was looked up."""
+    if not is_here("ssh-keygen", "a fleet that signs"):
+        return
+    signers, folder = signers_of(place, "web-1"), day(place / "fleet" / "web-1", 0, RIGHT)
+    dossier("audit", folder, env={**ENVIRONMENT, "XDG_STATE_HOME": str(place / "own")})
+    record = json.loads((folder / "audit.json").read_text())
+    record["entries"][0]["leap"].update({"from": 0, "to": 1})
+    (folder / "audit.json").write_text(json.dumps(record))
+    sign(place, "web-1", folder / "audit.json")
+    leaps = leap_list(place / "list", LATER, (78_796_800, 11), (FIRST + units.DAY, 12))
+    pages = year_of(place, "--signers", signers, "--leap-seconds", leaps, folder.parent)
+    text = (pages / f"{called(folder.parent)}.html").read_text()
+    check("a hidden leap second", day=('title="2001-09-09: unsupported' in text, True))
