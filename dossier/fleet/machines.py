@@ -13,7 +13,7 @@ from typing import NamedTuple
 
 from ..fault import Fault
 from ..folder.entry import Refusal
-from ..folder.files import AUDIT, HOME, KINDS, SIGNATURES, Folder, absolute, asked, kind_of
+from ..folder.files import AUDIT, HOME, KINDS, SIGNATURES, Folder, absolute, asked, is_roots, kind_of
 from ..folder.jobs import run_all, run_one
 from ..schema import is_text, is_time
 from ..text import count, label, plain, spelled
@@ -177,10 +177,8 @@ def folders_in(place: str, are_days: bool) -> list[str]:
 
 def is_lost(path: str) -> bool:
     """Whether a folder is root's where a file system keeps what it has found again, and nobody sees anything in it."""
-    with suppress(OSError):
-        return os.path.basename(path) == "lost+found" and not asked(path, lambda folder: bool(folder.names()), False) \
-            and not os.stat(path, dir_fd=HOME, follow_symlinks=False).st_uid
-    return False
+    return os.path.basename(path) == "lost+found" and is_roots(HOME, path) and \
+        not asked(path, lambda folder: bool(folder.names()), False)
 
 
 def others_in(place: str) -> list[str]:

@@ -155,6 +155,13 @@ def read_once(place: int, file: str, name: str, take: Callable[[bytes], object],
         raise unreadable(name, error) from None
 
 
+def is_roots(place: int, name: str) -> bool:
+    """Whether something is root's."""
+    with suppress(OSError):
+        return not os.stat(name, dir_fd=place, follow_symlinks=False).st_uid
+    return False
+
+
 def kind_of(place: int, name: str) -> str:
     """What stands there, such as `a file` or `a link`; nothing if there is nothing."""
     try:
